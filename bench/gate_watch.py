@@ -3,19 +3,17 @@
 Processor seconds are those at the last reading. So a process may have used half a second more than is reported, and one that lives only between two readings
 isn't seen.
 """
+import contextlib
 import os
 import re
 import threading
 import time
 from collections import Counter, defaultdict
-from dataclasses import dataclass
 
-from office_kit.processor import all_processes
-
+TICK = os.sysconf("SC_CLK_TCK")
 EVERY = 0.5
-# The kinds of work of rt's processes, in this order. A crate's proof. The proof and the build of its tests. The check that its mutants begin with (the seed).
-# Each mutant. The last check over the seed. The builds of a proved program. The runs of programs and tests.
-KINDS = ("proof", "tests", "seed", "edits", "last", "builds", "runs")
+# The kinds of work: a crate's proof, the builds of a proved program, the proof and the build of tests, mutants with the checks around them, and runs.
+KINDS = ("proof", "builds", "tests", "mutants", "runs")
 
 
 def word_after(words, name):
@@ -33,35 +31,18 @@ def task_of(words, folder):
         return made.removesuffix("_tests"), "tests" if made.endswith("_tests") else "builds"
     if tool != "rattle" or words[1:2] not in (["check"], ["build"]):
         return None
-    crate = word_after(words, "--crate-name")
-    if "/rt-edit-" in folder:
-        return crate, "seed" if word_after(words, "--incremental").endswith("/seed") else "edits"
-    if "--test" in words:
-        return crate, "tests"
-    return crate, "builds" if "--crate-checked" in words else "proof"
+    kind = "mutants" if "/rt-edit-" in folder else "tests" if "--test" in words else "builds" if "--crate-checked" in words else "proof"
+    return word_after(words, "--crate-name"), kind
 
 
-def words_of(pid):
-    """The command line and the folder of a process."""
-    try:
-        with open(f"/proc/{pid}/cmdline", "rb") as file:
-            words = file.read().decode(errors="replace").split("\0")
-        return words, os.readlink(f"/proc/{pid}/cwd")
-    except OSError:
-        return [], ""
-
-
-@dataclass(eq=False)
-class Work:
-    """A process that works for a crate. `over` is the folder of its proofs. `start` and `end`, when it was last seen, are seconds since the machine began, and
-    `used` are seconds of processor."""
-
-    crate: str
-    kind: str
-    over: str
-    start: float
-    end: float
-    used: float = 0.0
+def processes():
+    """All processes: the parent, the start in seconds after that of the machine, and the seconds used, with those of children that were waited for."""
+    found = {}
+    for number in filter(str.isdigit, os.listdir("/proc")):
+        with contextlib.suppress(OSError), open(f"/proc/{number}/stat") as file:
+            fields = file.read().rpartition(")")[2].split()
+            found[int(number)] = int(fields[1]), int(fields[19]) / TICK, sum(map(int, fields[11:15])) / TICK
+    return found
 
 
 class Watch(threading.Thread):
@@ -69,7 +50,8 @@ class Watch(threading.Thread):
 
     def __init__(self, pid):
         super().__init__(daemon=True)
-        self.pid, self.seen = pid, {}
+        # By the number and the start of a process: the crate and the kind of its work, its seconds of processor, and when it was last seen.
+        self.pid, self.tasks, self.used, self.seen = pid, {}, Counter(), {}
 
     def run(self):
         while self.read():
@@ -77,44 +59,34 @@ class Watch(threading.Thread):
 
     def read(self):
         """One reading; whether the watched process is still there. A process counts for the nearest one at or above it that works for a crate."""
-        every, now, used, below = all_processes(), time.clock_gettime(time.CLOCK_BOOTTIME), Counter(), defaultdict(list)
-        for pid, process in every.items():
-            below[process.parent].append(pid)
+        every, used, below = processes(), Counter(), defaultdict(list)
+        for pid, (parent, _, _) in every.items():
+            below[parent].append(pid)
         left = [(pid, None) for pid in below[self.pid]]
         while left:
             pid, above = left.pop()
-            work = above or self.work_of(pid, every[pid].start)
+            work = above or self.work_of(pid, every[pid][1])
             if work:
-                used[work] += every[pid].used
+                used[work] += every[pid][2]
             left += [(it, work) for it in below[pid]]
         for work, seconds in used.items():
-            work.used, work.end = max(work.used, seconds), now
+            self.used[work], self.seen[work] = max(self.used[work], seconds), time.clock_gettime(time.CLOCK_BOOTTIME)
         return self.pid in every
 
     def work_of(self, pid, start):
-        """The work of a process, once its command line shows it."""
-        if (pid, start) not in self.seen:
-            words, folder = words_of(pid)
-            task = task_of(words, folder)
-            if not task:
-                return None
-            crate, kind = task
-            over = word_after(words, "--incremental")
-            if kind == "seed" and any(it.over == over for it in self.seen.values()):
-                kind = "last"
-            self.seen[pid, start] = Work(crate, kind, over, start, start)
-        return self.seen[pid, start]
+        """The number and the start of a process, once its command line shows that it works for a crate."""
+        if (pid, start) not in self.tasks:
+            with contextlib.suppress(OSError), open(f"/proc/{pid}/cmdline", "rb") as file:
+                if task := task_of(file.read().decode(errors="replace").split("\0"), os.readlink(f"/proc/{pid}/cwd")):
+                    self.tasks[pid, start] = task
+        return (pid, start) if (pid, start) in self.tasks else None
 
     def table(self):
-        """Minutes by crate and kind: a number of each kind, the list of the minutes of each mutant, and the wall minutes of the proof with its builds."""
+        """Minutes by crate and kind, and by the clock those of the proof with its builds (`wall`)."""
         crates = {}
-        for it in self.seen.values():
-            row = crates.setdefault(it.crate, {**dict.fromkeys(KINDS, 0.0), "edits": []})
-            if it.kind == "edits":
-                row["edits"].append(it.used / 60)
-            else:
-                row[it.kind] += it.used / 60
+        for work, (crate, kind) in self.tasks.items():
+            crates.setdefault(crate, dict.fromkeys(KINDS, 0.0))[kind] += self.used[work] / 60
         for crate, row in crates.items():
-            proofs = [it for it in self.seen.values() if it.crate == crate and it.kind in ("proof", "builds")]
-            row["wall"] = (max(it.end for it in proofs) - min(it.start for it in proofs)) / 60 if proofs else 0.0
+            proofs = [work for work, task in self.tasks.items() if work in self.seen and task in ((crate, "proof"), (crate, "builds"))]
+            row["wall"] = (max(self.seen[it] for it in proofs) - min(start for _, start in proofs)) / 60 if proofs else 0.0
         return crates

@@ -12,6 +12,7 @@ import contextlib
 import hashlib
 import http.client
 import json
+import math
 import os
 import ssl
 import subprocess
@@ -41,6 +42,11 @@ HEAD = "line,kind,amount,title\n"
 def text_of(second: float) -> str:
     """A second as the office writes it."""
     return time.strftime("%Y-%m-%dT%H:%M:%SZ", time.gmtime(second))
+
+
+def ahead(begun: float, times: int) -> int:
+    """The second of a deadline before which so many times the work since `begun`, of `time.monotonic`, is done; on a busy machine it is further ahead."""
+    return int(time.time()) + max(AHEAD, math.ceil(times * (time.monotonic() - begun)))
 
 
 def wait_until(second: float) -> None:

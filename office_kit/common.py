@@ -7,6 +7,7 @@ import argparse
 import contextlib
 import functools
 import itertools
+import math
 import os
 import re
 import shutil
@@ -192,11 +193,26 @@ def connect(port: int, patience: float = 0) -> socket.socket:
 
 
 def until(holds: Callable[[], object], patience: float = 5) -> bool:
-    """Whether something holds within some seconds."""
-    end = time.monotonic() + patience
-    while not holds() and time.monotonic() < end:
+    """Whether something holds within some seconds. They are counted in turns of 20 ms, which last longer while the machine is busy."""
+    for _ in range(math.ceil(patience * 50)):
+        if holds():
+            return True
         time.sleep(0.02)
     return bool(holds())
+
+
+def busy() -> float:
+    """How many times longer work takes now than alone, because other processes take turns on the processors; at most 10. Bounds by the clock grow by it."""
+    begun, used = time.perf_counter(), time.thread_time()
+    while time.thread_time() - used < 0.02:
+        pass
+    return min(10.0, max(1.0, (time.perf_counter() - begun) / 0.02))
+
+
+def unread(port: int) -> list[int]:
+    """Of each connection to a port of this machine, the bytes that the server hasn't read yet (proc_pid_net(5))."""
+    rows = [line.split() for line in Path("/proc/net/tcp").read_text().splitlines()[1:]]
+    return [int(row[4].partition(":")[2], 16) for row in rows if row[1].endswith(f":{port:04X}") and row[3] in ("01", "08")]
 
 
 def read_all(stream: socket.socket) -> bytes:

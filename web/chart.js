@@ -1,18 +1,10 @@
 // Charts: SVG bars between names and figures that are words of the page, so that they keep their size on a
-// phone. Patterns distinguish the kinds.
+// phone; and columns along the months. Patterns distinguish the kinds.
 import { element } from "./common/draw.js";
-import { growing } from "./common/forms.js";
-
-const SPACE = "http://www.w3.org/2000/svg";
-
-function drawn(name, attributes, ...children) {
-  const made = document.createElementNS(SPACE, name);
-  for (const [key, value] of Object.entries(attributes)) {
-    made.setAttribute(key, value);
-  }
-  made.append(...children);
-  return made;
-}
+import { growing, table } from "./common/forms.js";
+import { drawing, drawn, picture, rounds, scale } from "./common/svg.js";
+import { number } from "./common/money.js";
+import { language, say } from "./common/texts.js";
 
 // The pattern of each kind that isn't plain: its size, and its drawing.
 const PATTERNS = {
@@ -22,6 +14,8 @@ const PATTERNS = {
 let charts = 0;
 // So many bars are shown at first, and with each press of the button.
 const FIRST = 25, AT_ONCE = 100;
+// The height of a picture of columns, the gap above them, and the most amounts beside them.
+const HEIGHT = 180, ABOVE = 8, AMOUNTS = 4;
 
 function patternsOf(chart, kinds) {
   const defined = kinds.filter((kind) => PATTERNS[kind]).map((kind) => {
@@ -33,7 +27,9 @@ function patternsOf(chart, kinds) {
 }
 
 /** One bar. Its length is the sum of its parts; a sum of `most` is as wide as the chart. */
-function barOf(chart, parts, most) {
+function barOf(parts, most) {
+  charts += 1;
+  const chart = `chart-${charts}`;
   let at = 0;
   const pieces = parts.filter(({ amount }) => amount > 0).map(({ kind, amount }) => {
     const width = (100 * amount) / most;
@@ -42,16 +38,54 @@ function barOf(chart, parts, most) {
     at += width;
     return piece;
   });
-  return drawn("svg", { width: "100%", height: "22", class: "chart", "aria-hidden": "true" }, ...patternsOf(chart, parts.map(({ kind }) => kind)), ...pieces);
+  return drawing(22, ...patternsOf(chart, parts.map(({ kind }) => kind)), ...pieces);
 }
 
 /** Bars below each other. A row has a `name` (a text or elements), `parts` with a kind and an amount, and the
  * text `told` after the bar. Screen readers get a list of names and figures. */
 export function bars(label, rows) {
   const most = Math.max(1, ...rows.map(({ parts }) => parts.reduce((sum, { amount }) => sum + amount, 0)));
-  const row = ({ name, parts, told }) => {
-    charts += 1;
-    return element("li", {}, element("span", { class: "name" }, name), barOf(`chart-${charts}`, parts, most), element("b", { class: "figure" }, told));
-  };
+  const row = ({ name, parts, told }) =>
+    element("li", {}, element("span", { class: "name" }, name), barOf(parts, most), element("b", { class: "figure" }, told));
   return growing(element("ul", { class: "bars", "aria-label": label }), rows, row, AT_ONCE, FIRST);
+}
+
+/** A round amount in a few signs, such as `1.5M`. */
+function short(amount) {
+  return new Intl.NumberFormat(language(), { notation: "compact" }).format(amount);
+}
+
+/** The table of a picture, folded. */
+function below(...told) {
+  return element("details", {}, element("summary", {}, say("picture.table")), table(...told));
+}
+
+/** Groups of bars as one picture with its table. A group has a `name` and `parts`, each of them a bar with a kind, a
+ * name and an amount. `heads` are those of the table, and `cells` its rows. */
+export function grouped(label, groups, caption, heads, cells) {
+  const most = Math.max(1, ...groups.flatMap(({ parts }) => parts.map(({ amount }) => amount)));
+  const told = groups.map(({ name, parts }) => `${name}: ${parts.map((part) => `${part.name} ${number(part.amount)}`).join(", ")}`);
+  const rows = groups.map(({ name, parts }) => element("div", { class: "group" }, element("b", {}, name), element("div", { class: "bars" },
+    parts.map((part) => element("div", { class: "one" }, barOf([part], most), element("span", { class: "figure" }, number(part.amount)))))));
+  return picture(`${label}. ${told.join(". ")}.`, rows, below(caption, heads, cells, { figures: heads.map((_, at) => at).slice(1) }));
+}
+
+/** Amounts over time as columns, as one picture with its table. A row has a `name`, an `amount`, and a `mark` for the
+ * axis, which can be empty. */
+export function columns(label, rows, heads) {
+  const most = Math.max(1, ...rows.map(({ amount }) => amount));
+  const tall = (amount) => ((HEIGHT - ABOVE) * amount) / most;
+  const lines = rounds(0, most, AMOUNTS);
+  const width = 100 / rows.length;
+  const at = lines.map((amount) => drawn("line", { x1: "0", x2: "100%", y1: HEIGHT - tall(amount), y2: HEIGHT - tall(amount), class: "mark" }));
+  const drawnRows = rows.map(({ amount }, place) => drawn("rect", { x: `${width * (place + 0.12)}%`, y: HEIGHT - tall(amount), width: `${width * 0.76}%`,
+    height: tall(amount), class: "piece paid" }));
+  const amounts = element("div", { class: "amounts" }, lines.map((amount) => {
+    const made = element("span", { "data-text": short(amount) });
+    made.style.bottom = `${tall(amount)}px`;
+    return made;
+  }));
+  const marks = scale(rows.flatMap(({ mark }, place) => (mark ? [{ part: place / rows.length, text: mark }] : [])));
+  return picture(label, element("div", { class: "columns" }, amounts, element("div", {}, drawing(HEIGHT, ...at, ...drawnRows), marks)),
+    below(label, heads, rows.map(({ name, amount }) => [name, number(amount)]), { figures: [1] }));
 }

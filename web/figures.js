@@ -1,17 +1,23 @@
-// Figures of all procurements: money by budget line, tenders for each lot, and the time from the notice to
-// the contract.
-import { bars } from "./chart.js";
-import { sum, tables } from "./common/data.js";
-import { element, given, key, link, placeOf, section, title } from "./common/draw.js";
+// Figures of all procurements: payments by month and by year, money by budget line, tenders for each lot, and
+// the time from the notice to the contract.
+import { bars, columns, grouped } from "./chart.js";
+import { grouped as groupedBy, sum, tables } from "./common/data.js";
+import { marksOf, monthOf } from "./common/days.js";
+import { below, element, given, key, link, placeOf, section, title } from "./common/draw.js";
 import { field } from "./common/forms.js";
 import { number } from "./common/money.js";
 import { pots } from "./common/pots.js";
-import { say } from "./common/texts.js";
+import { addTexts, language, say } from "./common/texts.js";
 
+await addTexts({ en: () => import("./common/en_pictures.js"), de: () => import("./common/de_pictures.js") });
 const DAY = 86_400_000;
-// The longest time of each bar in the third chart, in days.
+// The longest time of each bar in the last chart, in days.
 const DAYS = [30, 60, 90, 120, 180, Infinity];
 const MOST = 5;
+// The most months of a picture, and of their marks.
+const MONTHS = 24, MARKS = 4;
+// The orders of budget lines, and the money that their bars show. (Free money is nearly everything.)
+const ORDERS = ["paid", "contracted", "reserved", "line"], USED = ["paid", "contracted", "reserved"];
 
 function card(...content) {
   const made = section(...content);
@@ -19,19 +25,102 @@ function card(...content) {
   return made;
 }
 
+/** The month of a moment, such as `2026-03`, so many months later. */
+function monthAfter(month, count) {
+  const [year, number_] = month.split("-").map(Number);
+  return new Date(Date.UTC(year, number_ - 1 + count, 1)).toISOString().slice(0, 7);
+}
+
+function monthText(month, parts) {
+  return new Intl.DateTimeFormat(language() === "en" ? "en-GB" : language(), { ...parts, timeZone: "UTC" }).format(new Date(`${month}-01`));
+}
+
+/** The months of payments, the last ones, each with its sum: also those in between in which nothing was paid. */
+export function monthsOf(payments) {
+  const sums = new Map([...groupedBy(payments, ({ date }) => monthOf(date))].map(([month, some]) => [month, sum(some.map(({ amount }) => amount))]));
+  const names = [...sums.keys()].sort();
+  const last = names.at(-1);
+  const first = [names[0], monthAfter(last, 1 - MONTHS)].sort().at(-1);
+  const found = [];
+  for (let month = first; month <= last; month = monthAfter(month, 1)) {
+    found.push([month, sums.get(month) ?? 0]);
+  }
+  return found;
+}
+
+/** The payments by month, as a picture; a sentence if there are none. */
+export function byMonth(payments, currency) {
+  if (payments.length === 0) {
+    return element("p", {}, say("see.month.none"));
+  }
+  const months = monthsOf(payments);
+  const marked = marksOf(Date.parse(months[0][0]), Date.parse(months.at(-1)[0]), MARKS).marks.map((at) => new Date(at).toISOString().slice(0, 7));
+  const mark = (month) => (month.endsWith("-01") ? month.slice(0, 4) : monthText(month, { month: "short" }));
+  const rows = months.map(([month, amount]) => ({ name: monthText(month, { month: "long", year: "numeric" }), amount,
+    mark: marked.includes(month) ? mark(month) : "" }));
+  const label = say("see.month.label", { count: rows.length, first: rows[0].name, last: rows.at(-1).name, sum: number(sum(rows.map(({ amount }) => amount))), currency });
+  return element("div", {}, element("p", {}, label), columns(label, rows, [say("see.month"), say("see.paid")]));
+}
+
+/** Payments by month, of all budget lines or of one. */
+function monthCard(data, currency) {
+  const lineOf = new Map(data.lots.map((lot) => [`${lot.notice}/${lot.lot}`, lot.line]));
+  const payments = data.payments.map((row) => ({ ...row, line: lineOf.get(`${row.notice}/${row.lot}`) }));
+  const paid = new Set(payments.map(({ line }) => line));
+  const options = [["", say("see.any")], ...data.budget.filter(({ line }) => paid.has(line)).map(({ line, title: text }) => [line, `${line} ${text}`])];
+  const { made, input } = field(say("see.by.line"), { id: "months-of", kind: "choice", options });
+  const shown = element("div", {}, byMonth(payments, currency));
+  input.addEventListener("change", () => shown.replaceChildren(byMonth(payments.filter(({ line }) => [line, ""].includes(input.value)), currency)));
+  return card(say("see.chart.months"), payments.length > 0 ? made : null, shown);
+}
+
+/** The years in which a contract was signed or something was paid, newest first. Each has the estimates and prices of the
+ * lots whose contracts were signed in it, and its payments. */
+export function yearsOf({ lots, contracts, payments }) {
+  const estimates = new Map(lots.map(({ notice, lot, estimate }) => [`${notice}/${lot}`, estimate]));
+  const [signed, paid] = [groupedBy(contracts, (row) => monthOf(row.signed).slice(0, 4)), groupedBy(payments, ({ date }) => monthOf(date).slice(0, 4))];
+  return [...new Set([...signed.keys(), ...paid.keys()])].sort().reverse().map((year) => {
+    const own = signed.get(year) ?? [];
+    return { year, count: own.length, estimate: sum(own.map(({ notice, lot }) => estimates.get(`${notice}/${lot}`) ?? 0)),
+      price: sum(own.map(({ price }) => price)), paid: sum((paid.get(year) ?? []).map(({ amount }) => amount)) };
+  });
+}
+
+function yearCard(data, currency) {
+  const years = yearsOf(data);
+  const parts = (one) => [["reserved", "estimate"], ["contracted", "price"], ["paid", "paid"]].map(([kind, name]) => ({ kind, name: say(`see.${name}`), amount: one[name] }));
+  const heads = [say("see.by.year"), say("see.contracts"), say("see.estimate"), say("see.price"), say("see.paid")];
+  const cells = years.map(({ year, count, estimate, price, paid }) => [year, ...[count, estimate, price, paid].map(number)]);
+  const label = say("see.chart.years");
+  const all = parts(Object.fromEntries(["estimate", "price", "paid"].map((name) => [name, sum(years.map((one) => one[name]))])));
+  return card(label, element("p", {}, say("see.chart.years.what", { currency })), key(all, ` ${currency}`),
+    years.length === 0 ? element("p", {}, say("see.month.none")) : grouped(label, years.map((one) => ({ name: one.year, parts: parts(one) })), label, heads, cells));
+}
+
+function used(line) {
+  return sum(USED.map((kind) => line[kind]));
+}
+
 function byLine(budget, currency) {
-  const rows = budget.filter(({ appropriation }) => appropriation > 0).map((line) => ({
-    name: link([`${line.line} `, given(line.title)], placeOf("line", line.line)), parts: pots((kind) => line[kind]), told: number(line.appropriation) }));
+  const rowOf = (line) => ({ name: link([`${line.line} `, given(line.title)], placeOf("line", line.line)), parts: pots((kind) => (kind === "free" ? 0 : line[kind])),
+    told: [number(used(line)), below(say("see.chart.lines.of", { appropriation: number(line.appropriation) }))] });
   const all = pots((kind) => sum(budget.map((line) => line[kind])));
-  return card(say("see.chart.lines"), element("p", {}, say("see.chart.lines.what", { currency })), key(all, ` ${currency}`),
-    bars(say("see.chart.lines"), rows));
+  const { made, input } = field(say("see.by.order"), { id: "lines-by", kind: "choice", value: ORDERS[0], options: ORDERS.map((name) => [name, say(`see.lines.by.${name}`)]) });
+  const draw = () => {
+    const own = budget.filter(({ appropriation }) => appropriation > 0);
+    const by = input.value === "line" ? own : own.toSorted((one, other) => other[input.value] - one[input.value] || used(other) - used(one));
+    return bars(say("see.chart.lines"), by.map(rowOf));
+  };
+  const shown = element("div", {}, draw());
+  input.addEventListener("change", () => shown.replaceChildren(...draw()));
+  return card(say("see.chart.lines"), element("p", {}, say("see.chart.lines.what", { currency })), key(all, ` ${currency}`), made, shown);
 }
 
 function tendersALot(lots) {
   const opened = lots.filter(({ tenders }) => tenders !== null);
   const counted = Array.from({ length: MOST + 1 }, (_, count) => opened.filter(({ tenders }) => Math.min(tenders, MOST) === count).length);
   const rows = counted.map((count, at) => ({ name: say(at === MOST ? "see.chart.tenders.more" : "see.chart.tenders.count", { count: at }),
-    parts: [{ kind: "paid", amount: count }], told: number(count) }));
+    parts: [{ kind: "count", amount: count }], told: number(count) }));
   const told = say("see.chart.tenders.what", { count: opened.length, one: counted[1], none: counted[0] });
   return card(say("see.chart.tenders"), element("p", {}, told), bars(say("see.chart.tenders"), rows));
 }
@@ -48,7 +137,7 @@ function timeToContract(days) {
     const count = days.filter((one) => one <= most && one > (DAYS[at - 1] ?? -1)).length;
     const least = at === 0 ? 0 : DAYS[at - 1] + 1;
     const name = most === Infinity ? say("see.chart.days.more", { most: least - 1 }) : say("see.chart.days.most", { least, most });
-    return { name, parts: [{ kind: "paid", amount: count }], told: number(count) };
+    return { name, parts: [{ kind: "count", amount: count }], told: number(count) };
   });
   const middle = days.length === 0 ? "–" : say("see.days", { count: days[Math.floor((days.length - 1) / 2)] });
   return card(say("see.chart.days"), element("p", {}, say("see.chart.days.what", { count: days.length, middle })),
@@ -64,7 +153,7 @@ function charts(data, year) {
 
 /** The view of all charts. The address holds the year of the notices. */
 export async function drawFigures(text) {
-  const data = await tables("notices", "lots", "contracts", "budget");
+  const data = await tables("notices", "lots", "contracts", "payments", "budget");
   const heading = title(say("see.page.figures"));
   if (data === null) {
     return { title: say("see.page.figures"), told: say("see.nodata"), content: [heading, element("p", { class: "note" }, say("see.nodata"))] };
@@ -80,5 +169,5 @@ export async function drawFigures(text) {
   });
   const currency = data.lots[0]?.currency ?? "";
   return { title: say("see.page.figures"), told: say("see.page.figures"), content: [heading, element("p", { class: "intro" }, say("see.figures.intro")),
-    byLine(data.budget, currency), made, shown] };
+    monthCard(data, currency), yearCard(data, currency), byLine(data.budget, currency), made, shown] };
 }

@@ -1,12 +1,16 @@
 // Firms: the tenders, awards and payments of each, from the mirror's tables.
+import { bars } from "./chart.js";
 import { grouped, sum, tables, worthNow } from "./common/data.js";
-import { badge, below, element, facts, given, link, placeOf, title } from "./common/draw.js";
+import { badge, below, element, facts, given, key, link, placeOf, section, title } from "./common/draw.js";
 import { finder, searchable } from "./common/filters.js";
 import { kindOfSigned } from "./common/findings.js";
 import { field, table } from "./common/forms.js";
 import { day, number } from "./common/money.js";
 import { Refused } from "./common/office.js";
 import { say } from "./common/texts.js";
+
+// So many firms are in the picture.
+const FIRST = 20;
 
 function amount(value) {
   return value === null ? "–" : number(value);
@@ -35,6 +39,29 @@ function without() {
     content: [title(say("see.page.firms")), element("p", { class: "note" }, say("see.nodata"))] };
 }
 
+/** The firms with the most contracts, by their number or by their value. */
+function most(firms, currency) {
+  const own = firms.filter(({ won }) => won > 0);
+  const parts = { won: ({ won }) => [{ kind: "count", amount: won }],
+    worth: ({ worth, paid }) => [{ kind: "paid", amount: paid }, { kind: "contracted", amount: worth - paid }] };
+  const kinds = [{ kind: "paid", name: say("see.paid"), amount: sum(own.map(({ paid }) => paid)) },
+    { kind: "contracted", name: say("see.topay"), amount: sum(own.map(({ worth, paid }) => worth - paid)) }];
+  const { made, input } = field(say("see.firms.by"), { id: "firms-by", kind: "choice", value: "won",
+    options: ["won", "worth"].map((name) => [name, say(`see.firms.by.${name}`, { currency })]) });
+  const shown = element("div");
+  const draw = () => {
+    const by = input.value;
+    const rows = own.toSorted((one, other) => other[by] - one[by] || other.worth - one.worth).slice(0, FIRST).map((firm) =>
+      ({ name: link(given(firm.name), placeOf("firm", firm.tenderer)), parts: parts[by](firm), told: number(firm[by]) }));
+    shown.replaceChildren(...[by === "worth" ? key(kinds, ` ${currency}`) : null, bars(say("see.chart.firms"), rows)].flat().filter(Boolean));
+  };
+  draw();
+  input.addEventListener("change", draw);
+  const drawn = section(say("see.chart.firms"), element("p", {}, say("see.chart.firms.what", { count: Math.min(FIRST, own.length) })), made, shown);
+  drawn.classList.add("card");
+  return own.length > 1 ? drawn : null;
+}
+
 /** All firms that tendered. The address holds the search. */
 export async function drawFirms(text) {
   const data = await tables("tenders", "contracts", "payments");
@@ -55,7 +82,7 @@ export async function drawFirms(text) {
   });
   return { title: say("see.page.firms"), told: say("see.firms.count", { count: firms.length }),
     content: [title(say("see.page.firms")), element("p", { class: "intro" }, say("see.firms.intro")),
-      firms.length === 0 ? element("p", {}, say("see.firms.none")) : [made, found]] };
+      firms.length === 0 ? element("p", {}, say("see.firms.none")) : [most(firms, currency), made, found]] };
 }
 
 /** The result of a tender, from the tables only: that of its award, else that of its examination. */

@@ -79,13 +79,17 @@ function lotTable(lots, entries, currency) {
 
 /** One budget line, and the lots that it pays for. */
 export async function drawLine(name) {
-  const [line, list, data] = await Promise.all([lookAtLine(part(name)), notices(), tables("notices", "lots")]);
+  const [line, list, data] = await Promise.all([lookAtLine(part(name)), notices(), tables("notices", "lots", "payments")]);
   const own = (data?.lots ?? []).filter((lot) => lot.line === name);
   const told = `${say("see.line.of", { line: name })}: ${line.title}`;
   const bought = own.length > 0 ? lotTable(own, entriesOf(list, data, officeNow()), own[0].currency)
     : element("p", {}, say(data ? "see.line.nothing" : "see.nodata"));
+  const lots = new Set(own.map(({ notice, lot }) => `${notice}/${lot}`));
+  const payments = (data?.payments ?? []).filter(({ notice, lot }) => lots.has(`${notice}/${lot}`));
+  // (The module of charts is loaded when there is something to draw.)
+  const paid = payments.length > 0 ? section(say("see.chart.months"), (await import("./figures.js")).byMonth(payments, own[0].currency)) : null;
   return { title: told, told, content: [title(say("see.line.of", { line: name }), ": ", given(line.title)),
     element("section", { class: "card", "aria-label": say("see.pots") }, potsOf(say("see.line.of", { line: name }), line)),
-    section(say("see.line.bought"), bought),
+    paid, section(say("see.line.bought"), bought),
     element("p", {}, link(say("see.budget.back"), "#ledger"), " · ", link(say("see.line.list"), `#list?line=${encodeURIComponent(name)}`))] };
 }

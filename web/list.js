@@ -1,9 +1,10 @@
 // The list of all procurements: open ones first, with a clock to the deadline. The address holds the filters
 // and the order.
+import { tableOf } from "./common/csv.js";
 import { tables } from "./common/data.js";
 import { element, fresh, given, link, placeOf, title } from "./common/draw.js";
 import { NAMES, ORDERS, STATES, addressOf, chosen, entriesOf, filtersOf, noticeOf, ordered } from "./common/filters.js";
-import { field, form, growing, jumpTo } from "./common/forms.js";
+import { button, field, form, growing, jumpTo, save, steps } from "./common/forms.js";
 import { clock, day, money, moment } from "./common/money.js";
 import { notices, officeNow } from "./common/office.js";
 import { stateBadge } from "./common/states.js";
@@ -30,6 +31,15 @@ function part(name, entries) {
     growing(element("ol", { class: "list", "aria-label": text }), entries, entry, AT_ONCE, FIRST)) };
 }
 
+/** Saves the entries that are shown as a table. */
+function saveTable(entries) {
+  const names = ["see.notice", "see.procurement", "see.state", "see.list.published", "see.deadline", "see.estimate", "see.currency", "see.list.to"]
+    .map((name) => say(name));
+  const rows = entries.map(({ notice, title: text, state, published, deadline, known, winners }) =>
+    [notice, text, say(`see.state.${state}`), published, deadline, known?.estimate ?? "", known?.currency ?? "", [...winners].join(", ")]);
+  save("procurements.csv", tableOf(names, rows, language() === "de" ? ";" : ","), "text/csv");
+}
+
 function drawFound(entries, all) {
   const count = entries.length === all ? say("see.list.all", { count: all }) : say("see.list.some", { some: entries.length, count: all });
   const [open, rest] = [entries.filter(({ state }) => state === "open"), entries.filter(({ state }) => state !== "open")];
@@ -37,7 +47,8 @@ function drawFound(entries, all) {
   const jumps = open.length > FIRST && parts.length > 1
     ? element("div", { class: "jumps", role: "group", "aria-label": say("see.list.parts") }, parts.map(({ jump }) => jump)) : null;
   return [element("p", { class: "count", "aria-live": "polite" }, count), jumps, ...parts.map(({ made }) => made),
-    entries.length === 0 ? element("p", {}, say("see.list.none")) : null].filter(Boolean);
+    entries.length === 0 ? element("p", {}, say("see.list.none"))
+      : steps(button(say("see.list.save", { count: entries.length }), () => saveTable(entries), "second"))].filter(Boolean);
 }
 
 /** The filter fields. Those that need the mirror's tables are left out without it. */
@@ -93,7 +104,8 @@ export async function drawList(text) {
     element("p", { class: "intro" }, say("see.list.intro")), data ? null : element("p", { class: "note" }, say("see.nodata")),
     list.length === 0 ? element("p", {}, say("see.list.empty")) : search(filtersOf(text), entries, data),
     data ? element("p", {}, link(say("see.list.feed.notices"), `/data/${language()}/notices.atom`), " · ",
-      link(say("see.list.feed"), `/data/${language()}/feed.atom`), " · ", link(say("see.about.data"), "/data/")) : null] };
+      link(say("see.list.feed"), `/data/${language()}/feed.atom`), " · ",
+      link(say("see.list.calendar"), "/data/deadlines.ics"), " · ", link(say("see.about.data"), "/data/")) : null] };
 }
 
 /** The notice whose number differs from this one only in case, or null. */

@@ -3,7 +3,7 @@
 import { rowsOf } from "./common/data.js";
 import { element, link } from "./common/draw.js";
 import { button, note, steps } from "./common/forms.js";
-import { moment } from "./common/money.js";
+import { minute } from "./common/money.js";
 import { Refused, file } from "./common/office.js";
 import { say, sayParts } from "./common/texts.js";
 
@@ -12,7 +12,7 @@ const FOLDERS = { record: ["records", "json"], releases: ["records", "json"], te
   evaluation: ["evaluations", "txt"] };
 // When the mirror asked the office for what the present view shows; null if the view has nothing of it.
 let asked = null;
-// The mirror's own file, which has the list of notices; read once for each view.
+// The mirror's own file, which has the moment; read once for each view.
 let state = null;
 
 /** A file of the mirror; null if there is none. */
@@ -40,16 +40,16 @@ async function ofLine(name) {
 export async function fromMirror(path) {
   state ??= read("mirror.json").then((text) => JSON.parse(text ?? "null"));
   const known = await state;
-  const text = known === null ? null : await answerOf(path, known);
+  const text = known === null ? null : await answerOf(path);
   asked = text === null ? asked : known.moment;
   return text;
 }
 
-async function answerOf(path, { notices }) {
+async function answerOf(path) {
   const [, notice, kind] = /^\/notices\/([^/?]+)\/([a-z]+)$/.exec(path) ?? [];
   const [, line] = /^\/lines\/([^/]+)$/.exec(path) ?? [];
   return path === "/ledger" ? read("ledger.txt") : line ? ofLine(line) : notice ? ofNotice(notice, kind)
-    : path.startsWith("/notices") ? JSON.stringify({ notices: Object.values(notices).map(({ row }) => row), next: null }) : null;
+    : path.startsWith("/notices") ? read("list.json") : null;
 }
 
 /** Draws a view, and says in it of which moment it is if it is the mirror's. `draw` draws it, and `again`
@@ -58,6 +58,6 @@ export async function ofItsMoment(draw, again) {
   [asked, state] = [null, null];
   const shown = await draw();
   const [head, ...rest] = shown.content;
-  return asked === null ? shown : { ...shown, content: [head, note("look", say("see.away"), element("p", {}, sayParts("see.away.asked", { moment: moment(asked) })),
+  return asked === null ? shown : { ...shown, content: [head, note("look", say("see.away"), element("p", {}, sayParts("see.away.asked", { moment: minute(asked) })),
     steps(button(say("frame.again"), () => again()), link(say("see.about.contact"), "#about"))), rest] };
 }

@@ -5,8 +5,6 @@ import { substitute } from "./common/office.js";
 import { drawNotice } from "./common/process.js";
 import { addTexts, say } from "./common/texts.js";
 import { drawAbout, siteName } from "./about.js";
-import { drawFigures } from "./figures.js";
-import { drawFirm, drawFirms } from "./firms.js";
 import { drawBudget, drawLine } from "./ledger.js";
 import { drawList, meant } from "./list.js";
 import { fromMirror, ofItsMoment } from "./mirror.js";
@@ -14,8 +12,11 @@ import { fromMirror, ofItsMoment } from "./mirror.js";
 await addTexts({ en: () => import("./en.js"), de: () => import("./de.js") });
 // The views by the first word of the address, each with its page in the menu. The other words are their
 // arguments.
-const VIEWS = { list: [drawList, "list"], notice: [drawNotice, "list"], ledger: [drawBudget, "ledger"], line: [drawLine, "ledger"], firms: [drawFirms, "firms"],
-  firm: [drawFirm, "firms"], figures: [drawFigures, "figures"], about: [drawAbout, "about"] };
+// (The views with charts are loaded on demand.)
+/** @type {any} */
+const VIEWS = { list: [drawList, "list"], notice: [drawNotice, "list"], ledger: [drawBudget, "ledger"], line: [drawLine, "ledger"],
+  firms: [async (asked) => (await import("./firms.js")).drawFirms(asked), "firms"], firm: [async (asked) => (await import("./firms.js")).drawFirm(asked), "firms"],
+  figures: [async (asked) => (await import("./figures.js")).drawFigures(asked), "figures"], about: [drawAbout, "about"] };
 const PAGES = ["list", "ledger", "firms", "figures", "about"];
 // After so many milliseconds without an answer of the office, the mirror's data is shown.
 const PATIENCE = 15_000;

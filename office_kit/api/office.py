@@ -84,9 +84,10 @@ class Document:
     def refusals(self) -> Iterator[tuple[str, str, str, str | None]]:
         """Each operation's name with the status and the name of each refusal that it lists, and the first word of each `what`."""
         listed = [(operation.name, status, response["content"][JSON]["schema"])
-                  for operation in self.operations.values() for status, response in operation.responses.items() if status != "200"]
+                  for operation in self.operations.values() for status, response in operation.responses.items() if status not in ("200", "default")]
         for name, status, schema in listed:
-            for part in schema.get("oneOf", [schema]):
+            # (The front's own answers are no refusals.)
+            for part in [it for it in schema.get("oneOf", [schema]) if it["$ref"] != "#/components/schemas/Front"]:
                 what = {**self.resolved(part)["properties"], **part.get("properties", {})}.get("what")
                 for word in what.get("enum", ["row"]) if what else [None]:
                     yield name, status, part["$ref"].split("/")[-1], word

@@ -88,7 +88,7 @@ CREATE TEMP VIEW offers AS SELECT * FROM envelopes WHERE state = 'opened' AND re
 # securities, contracts). An earlier ledger, and those of days. The log of clerks who sign in at the front.
 RULES: dict[str, list[Check]] = {it: [] for it in (
     "file", "releases", "kept", "answers", "minutes", "looks", "list", "contracts", "ledger", "lacking", "outside", "copies", "witness", "saved", "held",
-    "ledgers", "days", "front")}
+    "ledgers", "days", "front", "documents")}
 
 
 class Unreadable(Exception):

@@ -31,7 +31,7 @@ def submit(desk: Desk) -> int:
     """Checks an offer, and sends it. Returns its receipt, which must be green."""
     desk.review()
     receipt = desk.submit()
-    assert desk.has("good", "The office received exactly what you submitted.") and not desk.has("bad", ""), desk.page.text()
+    assert desk.has("good", "The register received exactly what you submitted.") and not desk.has("bad", ""), desk.page.text()
     return receipt
 
 
@@ -49,7 +49,7 @@ def offers(alpha: Desk, beta: Desk, gamma: Desk) -> None:
     submit(alpha)
     beta.at("offer/N1/L1", "Tender for")
     beta.press("Use a file")
-    beta.choose("offer-file", beta.scene.put("sheet.csv", SHEET), "was converted to the form that the office reads: 540 EUR")
+    beta.choose("offer-file", beta.scene.put("sheet.csv", SHEET), "was converted to the form that the register reads: 540 EUR")
     beta.secure("G2", 50)
     submit(beta)
     alpha.at("tenders", "My tenders", "2 tenders: sealed ones first, the nearest deadline first")
@@ -61,7 +61,7 @@ def offers(alpha: Desk, beta: Desk, gamma: Desk) -> None:
 
 def decide(clerk: clerk_desk.Desk) -> None:
     """The opening, the examinations, the awards and the contracts."""
-    clerk.go("today", says="Open the tenders: the deadline passed")
+    clerk.go("today", says="Open the tenders, whose deadline has passed")
     clerk.go("notice/N1")
     clerk.order("Open the tenders", "3 tenders of notice N1 are open.")
     for name, receipt in (("Alpha & Söhne", 1), ("Alpha & Söhne", 2), ("Beta Ltd", 3)):
@@ -100,16 +100,14 @@ def life(scene: Scene) -> None:
     alpha, beta, gamma = desks
     deadline = int(time.time()) + SOON
     publish_part(clerk, "N1", "Road repair", deadline)
-    # (The front keeps the list and the terms for a second, and counts whole seconds.)
-    time.sleep(2.1)
+    scene.settles("/notices", "/notices/N1/terms")
     offers(alpha, beta, gamma)
     clerk.says("Tenders in time, by lot: L1: 2, L2: 1.")
     wait_until(deadline + 1.1)
     gamma.submit_late()
     decide(clerk)
     pay(clerk)
-    # (It keeps records and evaluations for three seconds.)
-    time.sleep(4.1)
+    scene.settles(*(f"/notices/N1/{part}" for part in ("terms", "record", "releases", "minutes", "evaluation")))
     beta.at("tender/3", "Tender with receipt 3", "The contract was signed.", "Ended as agreed", "P1: Returned")
     alpha.at("tender/2", "Tender with receipt 2", "P2: Forfeited")
     alpha.page.gives("document.querySelector('.contract .badge.stopped').innerText.endsWith('Ended by default')")
@@ -131,9 +129,9 @@ def lost_key(scene: Scene) -> None:
     desk.page.run("document.querySelector('main details').open = true")
     desk.says("let the clerk register it under another identifier")
     desk.choose("key-file", scene.put("wrong.key", b"Office-Caller: T1\nOffice-Key: " + b"0" * 64 + b"\n"), "This tab holds the key of T1")
-    desk.press("Ask whether", "The name and the key don't belong together. Check both.")
+    desk.press("Ask whether", "This key isn't registered yet.")
     other = enrol(scene, clerk, "T4", "Alpha & Söhne", "High Street 1")
-    other.press("Ask whether", "The office knows T4 by this key.")
+    other.press("Ask whether", "The register knows T4 by this key.")
     other.at("tenders", "My tenders", "None of your tenders was found.")
     other.page.run("location.hash = '#tender/1'")
     other.says("This belongs to another tenderer.")

@@ -1,9 +1,9 @@
-"""What tests/desks/test_clerk.py asks besides: that nothing is lost or forgotten on the desk's screens, and that they do in an office of 400 notices."""
+"""More checks of tests/desks/test_clerk.py: that nothing is lost or forgotten on the desk's screens, and that they do in an office of 400 notices."""
 import contextlib
 import json
 import os
 import time
-from functools import partial
+from typing import Any
 
 from office_kit.client import budget
 from office_kit.desks import clerk_large, page_checks
@@ -14,11 +14,13 @@ from office_kit.desks.scene import Scene, staged
 from office_kit.mirror.tables import table
 
 # Whether the page would ask somebody who leaves it.
+# A text that is typed into the search of Today; then the number of notices that are found, the first of them, and the text by which it is found.
+WORDS = "A number or title, a firm, a contract or an invoice"
+TYPED = [("fire 078", 1, "N078", ""), ("n003", 1, "N003", ""), ("Firm 24", 1, "N001", "Firm 24 Ltd"), ("contract 5", 2, "N009", "Contract 5, Firm"),
+         ("I-5", 1, "N005", "I-5: 1,000 EUR, Contract"), ("Clay tiles, purchase 8", 14, "N008", ""), ("purchase 7", 77, "N07", "")]
 ASKS = "(() => { const leave = new Event('beforeunload', { cancelable: true }); dispatchEvent(leave); return leave.defaultPrevented; })()"
 TITLE = "hands.field('Title', 'Terms').value"
 REASON = "A sentence is no price list."
-# (A view of the desk isn't drawn a second time.)
-in_time = partial(timed, again="")
 
 
 def drafts(scene: Scene) -> None:
@@ -29,14 +31,18 @@ def drafts(scene: Scene) -> None:
     desk.page.gives(ASKS, False)
     write_notice(desk, "N7", time.time() + 40 * DAY, "Kept")
     desk.page.gives(ASKS)
-    # (A reload keeps it.)
+    # (A reload keeps it, once the page has noted it.)
     desk.page.run("void dispatchEvent(new KeyboardEvent('keydown', { key: 'F5' }))")
     desk.page.gives(ASKS, False)
-    time.sleep(0.6)
+    desk.page.wait("history.state?.draft?.title === 'Kept'")
     desk.reload()
     desk.page.gives(f"[{TITLE}, {ASKS}]", ["Kept", True])
     desk.page.gives("localStorage.length + sessionStorage.length === 0 && indexedDB.databases().then((all) => all.length === 0)")
-    desk.press("Clear the form", says="Your draft was replaced before it was saved.")
+    desk.press("Clear the form …", says=("Clear the form?", "Until you begin another draft you can bring this one back."), picture="draft-clear")
+    desk.press("Keep the draft")
+    desk.page.gives(TITLE, "Kept")
+    desk.press("Clear the form …")
+    desk.press("Clear the form", says="Your former draft is still here.")
     desk.page.gives(TITLE, "")
     desk.picture("draft-cleared")
     desk.press("Bring it back")
@@ -45,6 +51,7 @@ def drafts(scene: Scene) -> None:
     desk.press("Save the draft as a file")
     text = desk.page.saved(scene.path("draft-N7.json")).decode()
     desk.page.gives(ASKS, False)
+    desk.press("Clear the form …")
     desk.press("Clear the form")
     desk.page.wait(f"{TITLE} === ''")
     desk.press("Open a saved draft")
@@ -135,7 +142,7 @@ def reasons(desk: Desk) -> None:
     desk.page.gives(ASKS, False)
     desk.fill({"More reasons": REASON})
     desk.page.gives(ASKS)
-    time.sleep(0.6)
+    desk.page.wait(f"JSON.stringify(history.state?.reasons ?? []).includes('{REASON}')")
     desk.reload()
     desk.page.gives(f"[...document.querySelectorAll('.sheet p')].some((at) => at.textContent === '{REASON}')")
     desk.page.gives(f"[hands.field('More reasons').value, {ASKS}]", [REASON, True])
@@ -179,43 +186,64 @@ def large(scene: Scene) -> None:
     """In an office of 400 notices, 125 budget lines and 60 firms each view comes at once, and everything in it can be found."""
     with staged(scene.program, scene.browser, scene.pictures, clerk_large.fill) as made:
         titles = [{"line": clerk_large.line_of(at), "title": f"Upkeep of district {at}"} for at in range(clerk_large.LINES)]
-        made.put("mirror/data/budget.csv", table("budget", titles).encode())
+        firms = [{"notice": "N001", "lot": "L1", "tenderer": f"F{at}", "name": f"Firm {at} Ltd"} for at in range(1, clerk_large.TENDERS + 1)]
+        paid = [{"contract": str(at - 4), "notice": f"N{at:03}", "name": "Firm 1 Ltd", "payment": f"I-{at}", "amount": 1000, "currency": "EUR"}
+                for at in range(5, 10)]
+        tables: dict[str, list[dict[str, Any]]] = {"budget": titles, "notices": [], "lots": [], "tenders": firms, "contracts": paid, "payments": paid}
+        for name, rows in tables.items():
+            made.put(f"mirror/data/{name}.csv", table(name, rows).encode())
         desk = with_key(made)
-        in_time(desk.page, "budget", "hands.button('Show more (100 left)')")
+        timed(desk.page, "budget", "hands.button('Show more (100 left)')")
         today(desk)
         budget_lines(desk)
-        in_time(desk.page, "tenderers", "hands.button('Show more (35 left)')")
-        in_time(desk.page, "new", "hands.button('Publish the notice …')")
-        in_time(desk.page, "notice/N005", "document.querySelector('main form')")
+        timed(desk.page, "tenderers", "hands.button('Show more (35 left)')")
+        timed(desk.page, "new", "hands.button('Publish the notice …')")
+        timed(desk.page, "notice/N005", "document.querySelector('main form')")
         desk.go("notice/N022", says=("No tender came.", "The tenders are sealed until the clerk opens them."))
-        in_time(desk.page, "notice/N001", "hands.button('Record the results …')")
+        timed(desk.page, "notice/N001", "hands.button('Record the results …')")
         examination(desk)
-        in_time(desk.page, "letter/N003/L1", "document.querySelector('.sheet')")
-        desk.says(("3 letters", "No tender can win the lot.", "It doesn't meet the requirements."))
-        in_time(desk.page, "letter/N002/L2", "document.querySelector('.sheet')")
-        desk.says(("1 letter,", "Our reason: The ground is wet.", "We have returned your security G5"))
+        for place in ("letter/N002/L1", "letter/N002/L2", "letter/N003/L1"):
+            timed(desk.page, place, "document.querySelector('.sheet')")
+            page_checks.sheets(made, desk.page, place)
         page_checks.is_quiet(desk.page)
 
 
 def today(desk: Desk) -> None:
     """The groups, their counts, and the search. The cells of a row start at one height."""
-    in_time(desk.page, "today", "[...document.querySelectorAll('main h2')].at(-1)")
+    timed(desk.page, "today", "[...document.querySelectorAll('main h2')].at(-1)")
     desk.page.gives("[...document.querySelectorAll('main h2')].map((at) => at.textContent)", ["Overdue: 180", "This week: 20", "Later: 5", "Waiting: 192"])
     desk.page.gives("document.querySelector('main input').getBoundingClientRect().top + scrollY < 400")
     desk.page.gives("hands.apart() < 8")
-    desk.page.run("void document.styleSheets[0].insertRule('.figures td, .figures th { vertical-align: baseline !important; }', 0)")
+    desk.page.run("void document.styleSheets[0].insertRule('.figures td { padding-top: 30px !important; }', 0)")
     desk.page.gives("hands.apart() > 8")
     desk.page.run("document.styleSheets[0].deleteRule(0)")
     desk.picture("large-today")
-    rows, words = "document.querySelectorAll('main section:first-of-type tbody tr').length", "Notice number, or words of its title"
-    desk.page.gives(rows, 10)
+    tables = "[...document.querySelectorAll('main table caption')].map((at) => at.textContent)"
+    desk.page.gives(tables, ["Open the tenders, whose deadline has passed (180)", "Sign the contract (1)", "Examine tenders (12)", "Wait for tenders (7)",
+                             "Contracts are running (5)", "Wait for tenders (192)"])
+    rows, heights = "document.querySelectorAll('main section:first-of-type tbody tr')", "[...document.querySelectorAll('main section tbody tr')]"
+    desk.page.gives(f"{rows}.length", 10)
+    desk.page.gives(f"{heights}.filter((at) => at.checkVisibility() && at.offsetHeight > 45).length", 0)
     desk.press("Show more (170 left)")
-    desk.page.gives(rows, 110)
-    desk.fill({words: "fire 078"})
-    desk.page.wait("[...document.querySelectorAll('main tbody th a')].map((at) => at.textContent).join() === 'N078'")
-    desk.fill({words: "n003"})
-    desk.page.wait("document.querySelector('main h2')?.textContent === 'Other notices: 1'")
+    desk.page.gives(f"{rows}.length", 110)
+    # A number, a title, words, a firm, a contract or an invoice is typed. The table says by which of them a notice is found.
+    for typed, count, first, by in TYPED:
+        desk.fill({WORDS: typed})
+        desk.page.wait(f"document.querySelector('main caption')?.textContent === '{count} found'")
+        desk.page.wait(f"document.querySelector('main tbody tr').innerText.startsWith('{first}') "
+                       f"&& document.querySelector('main tbody td:last-child').innerText.includes('{by}')")
+    desk.press("Show", says="77 notices match. Choose one below, or type more.")
+    desk.page.gives("document.activeElement.textContent.startsWith('N07') && !document.querySelector('main form .wrong:not([hidden])')")
+    desk.fill({WORDS: "Clay tiles, purchase 8"})
+    desk.press("Show", to="notice/N008")
+    desk.go("today")
+    desk.fill({WORDS: "nothing at all"})
+    desk.press("Show", says="No notice, firm, contract or invoice matches this.")
+    desk.fill({WORDS: "n003"})
     desk.press("Show", to="notice/N003")
+    desk.go("today")
+    desk.press("Opening")
+    desk.page.wait("location.hash.endsWith('//opening') && document.activeElement.querySelector('h2')?.textContent === 'Opening'")
 
 
 def budget_lines(desk: Desk) -> None:
@@ -230,7 +258,7 @@ def budget_lines(desk: Desk) -> None:
     desk.fill({words: "district 124"})
     desk.page.wait(f"{rows}.length === 1 && {rows}[0].innerText.includes('Upkeep of district 124')")
     desk.drop(budget(*(f"{2000 + at},add,{100 + at},Upkeep of district {at}" for at in range(120))), "all.csv", says=ACCEPTS_FILE)
-    desk.page.wait("hands.field('Name of the file at the office').getBoundingClientRect().top + scrollY < 3000")
+    desk.page.wait("hands.field('Name of the file in the register').getBoundingClientRect().top + scrollY < 3000")
     desk.press("Show more (95 left)")
     desk.page.gives("[...document.querySelectorAll('main table')].find((at) => at.caption?.textContent === 'What the file changes')"
                     ".tBodies[0].rows.length", 120)

@@ -20,6 +20,7 @@
       const style = getComputedStyle(at);
       const own = [...at.childNodes].some((node) => node.nodeType === Node.TEXT_NODE && node.data.trim()) || at.tagName === "INPUT";
       if (at.checkVisibility() && own && ratio(parts(style.color), ground(at)) < 4.5) found.push(`text: ${at.textContent}`);
+      if (at.matches(".span, .sign, .piece") && ratio(parts(style.stroke), ground(at.parentElement)) < 3) found.push(`shape: ${at.outerHTML}`);
       if (at.matches(".bar, .swatch, input") && ratio(parts(style.borderTopColor), ground(at.parentElement)) < 3) found.push(`edge: ${at.outerHTML}`);
     }
     return found;
@@ -34,11 +35,12 @@
     return found;
   },
 
-  /** The patterns that distinguish the parts of bars without their colours: kind, picture and whether the part is filled, each once. */
+  /** The patterns that distinguish the parts of bars and pictures without their colours: kind, picture or form, and whether the part is filled, each once. */
   patterns() {
-    return [...new Set([...document.querySelectorAll(".part, .swatch")].map((at) => {
+    return [...new Set([...document.querySelectorAll(".part, .swatch, .span, .sign")].map((at) => {
       const style = getComputedStyle(at), empty = getComputedStyle(document.documentElement).backgroundColor;
-      return `${at.classList[1]} ${style.backgroundImage.split("(")[0]} ${style.backgroundColor === empty}`;
+      const form = at.namespaceURI.endsWith("svg") ? `${at.tagName} ${style.strokeDasharray} ${style.fill === empty}` : "";
+      return `${at.classList[1]} ${form} ${style.backgroundImage.split("(")[0]} ${style.backgroundColor === empty}`;
     }))].sort();
   },
 

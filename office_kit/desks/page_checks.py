@@ -30,8 +30,11 @@ NAMED = ("link", "button", "textbox", "checkbox", "image", "table", "region", "a
 # The number of queries that are more than the front takes from one address at a time, on any machine.
 MANY = 2000
 # Moments, days, clocks and years, which differ in each run.
-MOVING = [(re.compile(r"\d{1,2} [A-Z][a-z]+ \d{4},? (at )?\d\d:\d\d:\d\d UTC \(here: [^)]*\)"), "MOMENT"), (re.compile(r"\d{1,2} [A-Z][a-z]+ \d{4}"), "DAY"),
-          (re.compile(r"closes in [^\n]*"), "closes in CLOCK"), (re.compile(r"^20\d\d(?=$|:)", re.M), "YEAR")]
+DAYS = r"\d{1,2}\.? [A-Z][a-zä]+ \d{4}"
+MOVING = [(re.compile(rf"{DAYS} (at|um) \d\d:\d\d:\d\d \w+"), "MOMENT"), (re.compile(rf"{DAYS} (at|um) \d\d:\d\d \w+"), "MINUTE"), (re.compile(DAYS), "DAY"),
+          (re.compile(r"(?<=Paid in )\w+ \d{4}"), "MONTH"),
+          (re.compile(r"closes in [^\n]*"), "closes in CLOCK"), (re.compile(r"([0-9a-f]{8} ){7}[0-9a-f]{8}"), "DIGEST"),
+          (re.compile(r"^20\d\d(?=$|:)", re.M), "YEAR")]
 ZONE = "Europe/Berlin"
 IN_PAGE = Path(__file__).with_name("in_page.js").read_text()
 
@@ -57,7 +60,7 @@ def view(scene: Scene, name: str) -> None:
     """A view: its text, which is left with its pictures; headings, names and landmarks; contrast; no wider than the window. Nothing is kept."""
     page = page_of(scene, VIEWS[name])
     page.wait("[...document.querySelectorAll('.lines h3')].every((heading) => heading.textContent.includes(':'))")
-    Path(scene.pictures, f"{name}.txt").write_text(without_moments(name, page))
+    Path(scene.pictures, f"{name}.txt").write_text(in_rows(without_moments(name, page)))
     says_what_it_should(name, page)
     has_its_own(name, page)
     # (Colours depend on light and dark, and not on the width: each is checked once, and also for each picture.)
@@ -87,16 +90,45 @@ def in_all_shapes(scene: Scene, name: str, page: Page) -> None:
 
 def without_moments(name: str, page: Page) -> str:
     """The text of a view, without moments. (The order of notices that were published within a few seconds isn't known before.)"""
-    text = page.text()
+    text = moved(page.text())
+    return "".join(sorted(text.splitlines(True))) if name == "list" else text
+
+
+def in_rows(text: str) -> str:
+    """A text as `page_texts/` has it: short lines are together in a row, with ¶ between two. (They may also be alone.)"""
+    rows: list[str] = []
+    for line in text.splitlines():
+        if rows and len(line) <= 60 and len(rows[-1]) + len(line) < 150:
+            rows[-1] += f" ¶ {line}"
+        else:
+            rows.append(line)
+    return "".join(f"{row}\n" for row in rows)
+
+
+def moved(text: str) -> str:
     for form, word in MOVING:
         text = form.sub(word, text)
-    return "".join(sorted(text.splitlines(True))) if name == "list" else text
+    return text
+
+
+def sheets(scene: Scene, page: Page, name: str) -> None:
+    """In both languages each printed sheet of a view is, as a whole, that of `page_texts/sheets.txt`: a line each, but for moments, digests and addresses."""
+    told = []
+    for language in ("de", "en"):
+        page.run(f"document.querySelector('#languages [lang={language}]').click()")
+        page.drawn(f"document.documentElement.lang === '{language}' && document.querySelector('.sheet')")
+        page.ask("Emulation.setEmulatedMedia", media="print")
+        texts = page.run("[...document.querySelectorAll('.sheet')].map((at) => at.innerText.trim().split(/\\s*[\\n\\t]\\s*/).join(' ¶ '))")
+        page.ask("Emulation.setEmulatedMedia", media="")
+        told += [f"{name} {language}: {moved(text.replace(scene.front.address(), 'https://ADDRESS/'))}" for text in texts]
+    Path(scene.pictures, f"sheets-{name.replace('/', '-')}.txt").write_text("".join(f"{line}\n" for line in told))
+    assert told == [line for line in Path(ROOT, "tests", "page_texts", "sheets.txt").read_text().splitlines() if line.startswith(f"{name} ")]
 
 
 def says_what_it_should(name: str, page: Page) -> None:
     """The text is that of `page_texts/`, except for moments."""
     wanted = Path(ROOT, "tests", "page_texts", f"{name}.txt").read_text()
-    assert without_moments(name, page).splitlines() == wanted.splitlines()
+    assert without_moments(name, page).splitlines() == wanted.replace(" ¶ ", "\n").splitlines()
 
 
 def has_its_own(name: str, page: Page) -> None:
@@ -140,7 +172,7 @@ def tells_all(name: str, page: Page) -> None:
     roles = [role for role, _, _ in tree]
     assert (roles.count("status"), roles.count("search")) == (1, int(name == "list")), name
     bars = [text for role, text, _ in tree if role == "image"]
-    assert len(bars) == page.run("document.querySelectorAll('.bar').length") and all(re.search(r"\d", text) for text in bars), (name, bars)
+    assert len(bars) == page.run("document.querySelectorAll('.bar, .picture').length") and all(re.search(r"\d", text) for text in bars), (name, bars)
     patterns = [pattern.split(" ", 1) for pattern in asked(page, "patterns()")]
     assert len(patterns) == len({kind for kind, _ in patterns}) == len({how for _, how in patterns}), (name, patterns)
 
@@ -238,6 +270,7 @@ PLANTS: list[tuple[str, Callable[[Scene, Page], None]]] = [
     ("document.querySelector('main').append(document.createElement('button'))", lambda _, page: tells_all("paid", page)),
     ("document.querySelectorAll('th').forEach((at) => at.replaceWith(document.createElement('td')))", lambda _, page: tells_all("paid", page)),
     ("document.querySelectorAll('.part, .swatch').forEach((at) => { at.style.background = '#333'; })", lambda _, page: tells_all("paid", page)),
+    ("document.querySelectorAll('.span').forEach((at) => { at.style.strokeDasharray = at.style.fill = 'none'; })", lambda _, page: tells_all("paid", page)),
     ("document.styleSheets[0].insertRule('* { outline: none !important; }')", lambda _, page: is_seen(page)),
     ("new Promise((done) => { setTimeout(() => { throw new Error('x'); }); setTimeout(done, 50); })", lambda _, page: is_quiet(page)),
     ("new Promise((done) => { indexedDB.open('x').onsuccess = done; }).then(() => 0)", keeps_nothing),
@@ -341,7 +374,7 @@ def office_away(scene: Scene) -> None:
     # The checks before used up what one address may ask at once. So the front may answer 429 first, until its count has run down.
     answer = client.Front(scene.front.address().rstrip("/"), scene.front.context, strict=False).send("GET", "/lines/78", b"", None)
     assert answer.status == 502 and b"front" in answer.body
-    told = "The office isn't answering at the moment."
+    told = "The register isn't answering at the moment."
     assert page_of(scene, "#notice/N78").text() == f"Not shown\n{told} Try again in a few minutes.\nTry again\nProcurements\n"
     for place, text in (("#ledger", "All 22 budget lines\nAppropriation 44,"), ("#list", "6 procurements\n"), ("#notice/N1", "All contracts ended\n")):
         said = page_of(scene, place).text()

@@ -7,7 +7,7 @@ import time
 import tomllib
 from pathlib import Path
 
-from office_kit.client import AHEAD, Answer, Asking, Client, budget, lot, notice, tender, text_of, wait_until
+from office_kit.client import AHEAD, Answer, Asking, Client, ahead, budget, lot, notice, tender, text_of, wait_until
 from office_kit.common import HOST, ROOT, fail
 from office_kit.front.nginx import Front
 from office_kit.store.life import key_of
@@ -39,10 +39,12 @@ class Procurements(Client[Answer]):
 
     def before_the_deadline(self) -> None:
         """The budget, the tenderers, all notices and tenders; one is cancelled, and one stays open for a day."""
+        begun = time.monotonic()
         titles = [title.replace('"', '""') for title in OFFICE["lines"]]
         self.import_budget("B1", budget(*(f'{1000 + 100 * number},add,{12_000_000 // number},"{title}"' for number, title in enumerate(titles, 1))))
         for name, (firm, address) in OFFICE["tenderers"].items():
             self.register(name, firm, address)
+        self.deadline = ahead(begun, 20)
         for it in OFFICE["notices"]:
             lots = [lot(name, line, estimate, security, *items, title=title) for name, line, estimate, security, title, *items in it["lots"]]
             self.publish(it["name"], notice(text_of(self.deadline + it.get("later", 0)), *lots, title=it["title"], **it.get("terms", {})))

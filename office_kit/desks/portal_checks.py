@@ -182,7 +182,7 @@ def on_paper(scene: Scene) -> None:
     rows = "[...document.querySelectorAll('main tr, .timeline li')]"
     assert page.run(f"{rows}.filter((at) => getComputedStyle(at).breakInside !== 'avoid').length") == 0, "rows may be broken"
     told = texts_of(page, ".source")[0]
-    assert scene.front.address("#notice/N1") in told and "Z" in told
+    assert scene.front.address("#notice/N1") in told and " at " in told
     page.run("dispatchEvent(new Event('afterprint'))")
     assert page.run("[...document.querySelectorAll('details')].some((at) => !at.open)"), "and folded again"
     page.ask("Emulation.setEmulatedMedia", media="")

@@ -8,7 +8,7 @@ from dataclasses import dataclass
 from pathlib import Path
 
 from office_kit.client import Answer, Client, Front as Transport
-from office_kit.common import connect, serve_words
+from office_kit.common import connect, look, serve_words, until, what_came
 from office_kit.desks.browser import Browser
 from office_kit.front.clerks import Change, Signing
 from office_kit.front.nginx import PATIENCE, Front
@@ -36,6 +36,13 @@ class Scene:
     def stop(self) -> None:
         self.office.kill()
         self.office.wait()
+
+    def settles(self, *paths: str) -> None:
+        """Waits until the front shows the office's answer of now at each path: nginx keeps answers for some seconds."""
+        for path in paths:
+            def is_of_now(path: str = path) -> bool:
+                return what_came(self.front.office, look(path.encode())).endswith(b"\r\n\r\n" + self.front.ask("GET", path).body)
+            assert until(is_of_now, PATIENCE), path
 
     def path(self, name: str) -> str:
         return os.path.join(self.front.folder, name)

@@ -7,6 +7,7 @@ from collections.abc import Callable
 from typing import Any
 
 from office_kit.client import AHEAD, budget, lot, notice, tender, text_of, wait_until
+from office_kit.common import busy
 from office_kit.desks.page_checks import is_quiet, keeps_nothing, refusals, texts_of
 from office_kit.desks.scene import Scene
 from office_kit.desks.tender_page import MADE, RIGHT, SHEET, Desk, digest_of
@@ -49,12 +50,12 @@ def key(scene: Scene) -> None:
     sheet = desk.page.run("document.querySelector('.sheet').innerText")
     assert digest_of(made.encode()) in sheet.replace(" ", "") and made not in sheet and "Mill Lane 3" in sheet
     desk.choose("key-file", scene.path("T9.key"), "its file was saved")
-    desk.press("Ask whether", "The name and the key don't belong together. Check both.")
+    desk.press("Ask whether", "This key isn't registered yet.")
     desk.press("Save the sheet as a file for the clerk")
     told = json.loads(desk.saved("registration-T9.json"))
     assert told["key"] == digest_of(made.encode())
     scene.client.clerk("/tenderers/T9", {name: told[name] for name in ("name", "address", "key")})
-    desk.press("Ask whether", "The office knows T9 by this key.")
+    desk.press("Ask whether", "The register knows T9 by this key.")
     assert desk.can_press("Prepare a tender")
     scene.put("none.key", b"Office-Key: x\n")
     desk.press("Forget the key", "This tab holds no key.")
@@ -65,20 +66,22 @@ def key(scene: Scene) -> None:
 def offer(scene: Scene) -> None:
     """A tenderer finds a notice by its number and types a price for each item. Sums appear at once, and so do errors of range. The test compares the file sent,
     its digest, the receipt and the saved file, and whether both belong together."""
+    # (A page reads the city's words once, when it begins.)
+    city = scene.put("city/city.json", json.dumps(CITY).encode())
     desk = Desk(scene, "T1")
     finds_notice(desk)
     sums(scene, desk)
     # A security with a wrong reference can't be sent; with a right one the tender can be checked.
     desk.secure("G 1", 50)
-    desk.review()
+    desk.press("Check before submitting", "1 thing is missing or wrong:")
+    desk.at("send", "Check before submitting")
     assert desk.has("bad", "The reference or the amount of the security is missing or wrong.") and not desk.can_press("Submit the tender")
     desk.at("offer/N1/L1", "Tender for")
     desk.fill("security-reference", "G1")
     desk.review()
-    city = scene.put("city/city.json", json.dumps(CITY).encode())
     assert (texts_of(desk.page, "pre")[0], texts_of(desk.page, "#digest")[0].replace(" ", "")) == (RIGHT.decode(), digest_of(RIGHT))
     receipt = desk.submit()
-    assert desk.has("good", "The office received exactly what you submitted.") and not desk.has("bad", ""), desk.page.text()
+    assert desk.has("good", "The register received exactly what you submitted.") and not desk.has("bad", ""), desk.page.text()
     names_all(desk)
     os.unlink(city)
     found = scene.client.tender("T1", receipt)
@@ -112,7 +115,14 @@ def finds_notice(desk: Desk) -> None:
     desk.shows("Tender for lot L1")
     for unit, text in (("12.5", "no point and no comma. Round it, or ask the clerk for a larger unit"), ("1000000001", "too much"), ("x", "digits only")):
         desk.fill("unit-1", unit)
-        assert text in desk.page.text() and not desk.can_press("Check before submitting"), unit
+        assert text in desk.page.text(), unit
+    # All faults are listed, and each leads to its field. That of a price is below its row, over the whole width.
+    desk.press("Check before submitting", "4 things are missing or wrong:")
+    wanted = ["Unit price of I1 A whole number is missing here.", "Unit price of I2 Use digits only.", "Reference of the security ", "Amount "]
+    listed = texts_of(desk.page, ".bad li")
+    assert desk.page.run("document.activeElement.className") == "bad" and all(text.startswith(it) for text, it in zip(listed, wanted, strict=True)), listed
+    desk.press("Unit price of I2")
+    assert desk.page.run("[document.activeElement.id, document.getElementById('unit-1-wrong').colSpan]") == ["unit-1", 5]
 
 
 def names_all(desk: Desk) -> None:
@@ -130,7 +140,7 @@ def belongs(scene: Scene, desk: Desk, receipt: int) -> None:
     desk.at("check", "Do a file")
     desk.choose("check-file", scene.path(f"N1-L1-receipt-{receipt}.csv"), "63 bytes")
     desk.choose("check-receipt", scene.path(f"receipt-{receipt}.json"), "They belong together.")
-    desk.press("Ask the office", "The office has the same tender.")
+    desk.press("Ask the register", "The register has the same tender.")
     desk.choose("check-file", scene.put("other.csv", RIGHT + b"\n"), "They don't belong together.")
     assert not desk.has("good", "belong") and "another length" in desk.page.text()
     desk.choose("check-receipt", scene.put("none.json", b"[1]"), "This file contains no receipt.")
@@ -162,11 +172,11 @@ def files(scene: Scene) -> None:
     desk.press("Use a file")
     desk.choose("offer-file", scene.put("bad.csv", b"item;quantity;unit;total\nI1;1;1.500;1.500\nI7;1;5;5\nTOTAL;;;1505\n"), "bad.csv can't be used")
     assert desk.has("bad", "could mean two things") and desk.has("bad", "no item “I7”"), desk.page.text()
-    assert not desk.can_press("Check before submitting")
+    desk.press("Check before submitting", "The table above says why.")
     desk.at("send", "Check before submitting")
     assert desk.has("bad", "Prices are missing or wrong.") and not desk.can_press("Submit")
     desk.at("offer/N1/L2", "Tender for")
-    desk.choose("offer-file", scene.put("sheet.csv", SHEET.encode("cp1252")), "was converted to the form that the office reads: 1,500 EUR")
+    desk.choose("offer-file", scene.put("sheet.csv", SHEET.encode("cp1252")), "was converted to the form that the register reads: 1,500 EUR")
     for text in ("Commas replaced the semicolons", "L2/I1 was replaced by I1", "1.500,00 € was read as 1,500", "The column Bezeichnung was removed",
                  "instead of “=C2*D2”"):
         assert desk.has("look", text), text
@@ -236,24 +246,24 @@ def lost(scene: Scene) -> None:
         desk.prices("N4", lot_name, 150, 12)
         desk.review()
         desk.page.answer_for({f"/notices/N4/lots/{lot_name}/tenders": None})
-        desk.press("Submit the tender", "The office may or may not have done this.")
+        desk.press("Submit the tender", "The register may or may not have done this.")
         if is_done:
             scene.client.present("T1", "N4", lot_name, RIGHT)
         desk.page.answer_for({})
-        desk.press("Ask the office what happened")
+        desk.press("Ask the register what happened")
         if not is_done:
-            desk.says("So far the office hasn't received it.")
+            desk.says("So far the register hasn't received it.")
             desk.press("Submit the tender")
         receipt = desk.receipt()
-        assert desk.has("good", "The office received exactly what you submitted.")
+        assert desk.has("good", "The register received exactly what you submitted.")
         assert scene.client.tender("T1", receipt)["digest"] == digest_of(RIGHT)
     desk.at(f"tender/{receipt}", "Tender with")
     desk.page.answer_for({f"/tenders/{receipt}/withdraw": None})
-    desk.withdraw("The office may or may not have done this.")
+    desk.withdraw("The register may or may not have done this.")
     desk.page.answer_for({})
-    desk.press("Ask the office", "So far the tender isn't withdrawn.")
+    desk.press("Ask the register", "So far the tender isn't withdrawn.")
     scene.client.withdraw("T1", receipt)
-    desk.press("Ask the office", "The tender is withdrawn.")
+    desk.press("Ask the register", "The tender is withdrawn.")
 
 
 def stopped(scene: Scene) -> None:
@@ -267,10 +277,10 @@ def stopped(scene: Scene) -> None:
     going = "The tender is being sent …"
     desk.page.expect("the tender is on its way", lambda: desk.has("look", going) and not desk.can_press(going))
     scene.stop()
-    desk.says("The office may or may not have done this.")
-    desk.press("Ask the office", "The office can't be reached now.")
+    desk.says("The register may or may not have done this.")
+    desk.press("Ask the register", "The register can't be reached now.")
     scene.start()
-    desk.press("Ask the office", "So far the office hasn't received it.")
+    desk.press("Ask the register", "So far the register hasn't received it.")
     scene.office.send_signal(signal.SIGSTOP)
     desk.press("Submit the tender", going)
     assert "So far" not in desk.page.text() and not desk.can_press(going)
@@ -282,9 +292,9 @@ def stopped(scene: Scene) -> None:
     desk.withdraw("The withdrawal is being sent …")
     assert not desk.can_press("The withdrawal is being sent …") and not desk.can_press("Withdraw the tender")
     scene.office.send_signal(signal.SIGCONT)
-    begun = time.monotonic()
+    begun, before = time.monotonic(), busy()
     desk.says("The tender is withdrawn.")
-    assert time.monotonic() - begun < AHEAD, "seconds until the new state is shown"
+    assert time.monotonic() - begun < AHEAD * max(before, busy()), "seconds until the new state is shown"
 
 
 def each_refusal(scene: Scene) -> None:
@@ -335,11 +345,11 @@ def results(scene: Scene) -> None:
     award = client.award("N3", "L1")["award"]
     client.sign(award, "P1", 70)
     client.pay(award, "E1", 200)
-    # The front keeps a record and an evaluation for three seconds, and counts whole seconds: so an answer is kept for four at most.
-    time.sleep(4.1)
+    scene.settles(*(f"/notices/N3/{part}" for part in ("terms", "record", "releases", "minutes", "evaluation")))
     desk = Desk(scene, "T2")
     desk.at("tender/2", "Tender with receipt 2")
-    texts = "The office read a price of 570 EUR.", "The file stated 550 EUR; the office corrected 1 figure.", "The contract was signed.", "370 EUR", "P1: Held"
+    texts = ("The register read a price of 570 EUR.", "The file stated 550 EUR; the register corrected 1 figure.", "The contract was signed.", "370 EUR",
+             "P1: Held")
     assert [text for text in (*texts, "Returned") if text not in desk.page.text()] == []
     desk.page.picture(os.path.join(scene.pictures, "results-desktop-light.png"))
     is_quiet(desk.page)

@@ -89,11 +89,12 @@ class Desk:
 
     def submit_late(self) -> None:
         """Submits after the deadline: the page warns about it, and the office records the tender and returns it."""
+        assert self.has("bad", "the register returns it as late"), "prices are typed without a warning"
         self.review()
         assert self.has("bad", "The deadline has passed") and not self.can_press("Submit the tender"), "a late tender can be sent without a tick"
         self.tick("send-late")
         self.submit()
-        assert self.has("bad", "The tender came late, and the office returned it."), "a late tender is green"
+        assert self.has("bad", "The tender came late, and the register returned it."), "a late tender is green"
 
     def receipt(self) -> int:
         """The receipt that the page shows after a sending."""

@@ -120,6 +120,7 @@ def printed(scene: Scene) -> None:
     desk.make_key("T8", "T8", "T8")
     looked_at(scene, desk, "registration", "en")
     seen = on_paper(scene, desk, "registration")
+    page_checks.sheets(scene, desk.page, "registration")
     assert "SHA-256 of the key" in seen and "signature" in seen
     assert "Make a key" not in seen and "Print" not in seen.replace("Printed", "")
     beta = Desk(scene, "T2")
@@ -164,7 +165,7 @@ def opened(scene: Scene) -> None:
     scene.client.open("N5")
     desk.page.wait(f"{row}.includes('opened')")
     assert desk.page.run("document.getElementById('tenders-receipt').value") == "123", "what was typed is gone"
-    other.says("The tender is now opened.", "The office read a price of 570 EUR.")
+    other.says("The tender is now opened.", "The register read a price of 570 EUR.")
     is_quiet(desk.page)
 
 

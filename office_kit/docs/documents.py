@@ -31,7 +31,8 @@ SKIPPED = {".git", "build", "out"}
 # The documents that scripts make of comments and figures.
 MADE = ("docs/GATE.md", "docs/READING.md")
 # The pages that name the buttons to press: each bold text in them is a text of these modules. A {value} of a text matches anything.
-SCREENS = {"docs/CLERK.md": ("web/clerk/en*.js", "web/common/en*.js"), "docs/TENDERER.md": ("web/tender/en*.js", "web/common/en*.js")}
+SCREENS = {f"docs/{folder}{page}.md": (f"web/{desk}/{language}*.js", f"web/common/{language}*.js")
+           for page, desk in (("CLERK", "clerk"), ("TENDERER", "tender")) for folder, language in (("", "en"), ("de/", "de"))}
 # The first line of a fenced block: its indent, its fence, and the words after that. Then the whole block.
 OPENED = re.compile(r"^( *)(`{3,}|~{3,})([^`\n]*)$", re.M)
 FENCED = re.compile(OPENED.pattern + r"\n(.*?)^ *\2[`~]*[ \t]*$", re.M | re.S)
@@ -149,15 +150,19 @@ def run_steps(path: str, steps: Sequence[Step], program: str) -> int:
     return sum(step.shown is not None for step in steps)
 
 
+def slug_of(heading: str) -> str:
+    """The anchor of a heading, without the marks of links, code and stress, as the common hosts of repositories make it."""
+    plain = re.sub(r"[`*]|(?<!\w)_|_(?!\w)", "", re.sub(r"!?\[([^\]]*)\]\([^)]*\)", r"\1", heading))
+    return re.sub(r"[^\w\- ]", "", plain.lower()).replace(" ", "-")
+
+
 @functools.cache
 def anchors_of(path: str) -> set[str]:
-    """The anchors of a document: of its headings, as they are made by the common hosts of repositories, and those that it names."""
+    """The anchors of a document: of its headings, and those that it names."""
     (_, prose), counts = parts_of(path), dict[str, int]()
     found = set(re.findall(r"<a (?:id|name)=\"([^\"]+)\"", prose))
     for heading in re.findall(r"^#{1,6} +(.*?)(?: +#+)? *$", prose, re.M):
-        # (without the marks of links, code and stress)
-        plain = re.sub(r"[`*]|(?<!\w)_|_(?!\w)", "", re.sub(r"!?\[([^\]]*)\]\([^)]*\)", r"\1", heading))
-        name = re.sub(r"[^\w\- ]", "", plain.lower()).replace(" ", "-")
+        name = slug_of(heading)
         counts[name] = counts.get(name, -1) + 1
         found.add(f"{name}-{counts[name]}" if counts[name] else name)
     return found
@@ -187,7 +192,7 @@ def check_link(path: str, line: int, target: str) -> None:
 def check_labels(path: str) -> Iterator[Wrong]:
     """The bold texts of a page about screens that aren't texts of these screens."""
     modules = [file.read_text(encoding="utf-8") for pattern in SCREENS[path] for file in sorted(Path(ROOT).glob(pattern))]
-    texts = [json.loads(found) for module in modules for found in re.findall(r'"(?:[^"\\\n]|\\.)*"', module)]
+    texts = [json.loads(found).replace("\u00ad", "").replace("\u00a0", " ") for module in modules for found in re.findall(r'"(?:[^"\\\n]|\\.)*"', module)]
     parts = [re.split(r"\{\w+\}", text) for text in texts]
     patterns = [re.compile(".+".join(map(re.escape, it))) for it in parts if re.search(r"\w", "".join(it))]
     prose = parts_of(path)[1]

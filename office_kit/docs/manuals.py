@@ -12,6 +12,7 @@ COMMANDS = {
     "procure-backup": (8, "deploy/backup.sh", "copy and check a procurement office while it is served"),
     "procure-check": (8, "deploy/check", "check a procurement office in operation"),
     "procure-follow": (8, "deploy/follow", "keep a copy of a procurement office on a second machine"),
+    "procure-notify": (8, "deploy/notify", "tell people by mail what happens in procurements"),
     "procure-audit": (1, "tools/audit", "audit a procurement office without trusting it"),
     "procure-mirror": (1, "tools/mirror", "copy what a procurement office publishes, and compare"),
 }
@@ -25,7 +26,8 @@ PAGE = """.\\" Made of the head of {script}.
 .Sh DESCRIPTION
 {body}
 .Sh SEE ALSO
-procure(1), and OPERATING.md and AUDITOR.md in /usr/share/doc/procure/docs
+procure(1), and INSTALL.md, OPERATING.md, ALARMS.md and AUDITOR.md in
+/usr/share/doc/procure/docs
 """
 WIDTH = 70
 

@@ -15,9 +15,10 @@ START: dict[str, list[str]] = {
 }
 # The calls whose clauses are the other promises: an office in files, a store, a desk.
 BESIDES: dict[str, list[str]] = {
-    "procure_programs/src/store.rt": ["serve_from", "print_from"], "procure_programs/src/serving.rt": ["serve", "serve_at"],
-    "procure_programs/src/connection.rt": ["serve_connection"], "procure_programs/src/desk.rt": ["answer_streams"],
-    "procure_programs/src/printing.rt": ["print", "print_notices"], "procure_programs/src/jobs.rt": ["printout_of"],
+    "procure_programs/src/store.rt": ["serve_from", "stop_from", "print_from"], "procure_programs/src/serving.rt": ["serve", "serve_at"],
+    "procure_programs/src/connection.rt": ["serve_connection"], "procure_programs/src/desk.rt": ["answer_streams", "desk_on"],
+    "procure_programs/src/printing.rt": ["print", "print_notices"], "procure_programs/src/jobs.rt": ["printout_of", "work_on"],
+    "procure_programs/src/placing.rt": ["place_empty"], "procure_programs/src/laws.rt": ["premises"],
     "procure_programs/src/clock.rt": ["moment_now"], "office_http/src/answering.rt": ["answer_request"],
     "office_desk/src/desk.rt": ["caller", "plan", "commit", "ask", "look"], "office_base/src/shelf.rt": ["apply"], "office_store/src/path.rt": ["open_from"],
     "office_store/src/open.rt": ["create", "open_files", "close_files"], "office_changes/src/apply.rt": ["apply_all"],

@@ -6,7 +6,7 @@ import time
 import tomllib
 from pathlib import Path
 
-from office_kit.common import CLERK, ROOT, exchange, request
+from office_kit.common import CLERK, ROOT, busy, exchange, request, unread, until
 from office_kit.desks.page_office import SECURITY
 from office_kit.desks.scene import Scene
 from office_kit.front.nginx import OUTSIDE, PATIENCE, Answer, fields_of
@@ -67,13 +67,12 @@ def odd_paths(scene: Scene) -> None:
 
 def networks(scene: Scene) -> None:
     """From elsewhere the clerk's routes are refused, with the right key too, and all others reach the office."""
-    for number, (method, path, who) in enumerate(routes(), 1):
+    for method, path, who in routes():
         answer = scene.front.ask(method, path, source=OUTSIDE, caller=CLERK if who == "clerk" else None)
         assert is_own(answer, 403) if who == "clerk" else b'"front"' not in answer.body, (method, path)
         if who == "clerk":
-            # (from another address each time: after a wrong key its address must wait)
             wrong = (b"clerk", b"wrong")
-            answer = scene.front.ask(method, path, caller=wrong, source=f"127.0.1.{number}")
+            answer = scene.front.ask(method, path, caller=wrong)
             told, _ = exchange(scene.front.office, request(method.encode(), path.encode(), b"", wrong), PATIENCE)
             assert answer.status == 401 and told.endswith(b"\r\n\r\n" + answer.body) and answer.head["WWW-Authenticate"], (method, path)
 
@@ -86,10 +85,11 @@ def slow_clients(scene: Scene) -> None:
             client = clients.enter_context(contextlib.closing(scene.front.connection()))
             client.connect()
             client.sock.sendall(sent)
-        time.sleep(0.3)
-        begun = time.monotonic()
+        # (nginx has read what each of them sent.)
+        assert until(lambda: not any(unread(scene.front.port)))
+        begun, before = time.monotonic(), busy()
         # A path that wasn't asked before, so the office must answer it.
-        assert json.loads(scene.front.ask("GET", "/lines/unknown").body).get("name") == "NoSuch" and time.monotonic() - begun < 3
+        assert json.loads(scene.front.ask("GET", "/lines/unknown").body).get("name") == "NoSuch" and time.monotonic() - begun < 3 * max(before, busy())
 
 
 def names_and_keys(scene: Scene) -> None:

@@ -1,7 +1,7 @@
-"""Clerks who sign in at a front by name, for tests: their roles, and their passwords or certificates. The files are those of deploy/, adapted as their heads
-and OPERATING.md say."""
+"""Clerks who sign in at a front by name, for tests: their roles, and their passwords or certificates, in the files that INSTALL.md names."""
 import base64
 import ctypes
+import itertools
 import secrets
 import subprocess
 from collections.abc import Iterable, Mapping
@@ -14,14 +14,17 @@ Change = tuple[str, int, str]
 WAYS = ("password", "certificate")
 
 
-def adapted(name: str, *changes: Iterable[Change]) -> str:
-    """The text of a file of deploy/ with each old part replaced by a new one, in turn; it must occur as often as is given."""
-    text = Path(ROOT, "deploy", name).read_text(encoding="utf-8")
-    for old, count, new in (change for part in changes for change in part):
-        if text.count(old) != count:
-            fail(f"deploy/{name}: {old!r} stands there {text.count(old)} times, and not {count}")
-        text = text.replace(old, new)
-    return text
+def adapted(*changes: Iterable[Change]) -> dict[str, str]:
+    """The files of the front, by their paths below deploy/, with each old part replaced by a new one, in turn; it must occur as often as is given."""
+    deploy = Path(ROOT, "deploy")
+    files = (deploy / "front.conf", deploy / "clerks.conf", *deploy.glob("nginx/*.conf"))
+    texts = {str(path.relative_to(deploy)): path.read_text(encoding="utf-8") for path in files}
+    for old, count, new in itertools.chain(*changes):
+        found = sum(text.count(old) for text in texts.values())
+        if found != count:
+            fail(f"the front has {found} times, and not {count}: {old!r}")
+        texts = {name: text.replace(old, new) for name, text in texts.items()}
+    return texts
 
 
 def basic(name: str, password: str) -> str:
@@ -47,41 +50,28 @@ def certify(place: str, subject: str, by: str | None = None, *more: str) -> None
 
 
 class Signing:
-    """Clerks by name with their roles, and one of two ways in which they sign in, or none. More of the files may be changed: each change begins with a name."""
+    """Clerks by name with their roles, and one of two ways in which they sign in, or none."""
 
-    def __init__(self, way: str | None, roles: Mapping[str, str], others: Iterable[str] = (), faults: Iterable[tuple[str, str, int, str]] = ()) -> None:
-        self.way, self.roles, self.names, self.key, self.faults, self.folder = way, roles, [*roles, *others], CLERK[1].decode(), faults, ""
+    def __init__(self, way: str | None, roles: Mapping[str, str], others: Iterable[str] = ()) -> None:
+        self.way, self.roles, self.names, self.key, self.folder = way, roles, [*roles, *others], CLERK[1].decode(), ""
         self.passwords = {name: secrets.token_urlsafe(15) for name in self.names}
 
     def put(self, folder: str) -> list[Change]:
-        """Writes the files into the folder of a front. The changes of nginx.conf: the `#` before one line is taken out."""
+        """Writes the key, the passwords and the certificates into the folder of a front. The changes of its files: the names, and one line without its `#`."""
         self.folder = folder
         self.write("clerks-key.conf", f'set $office_key "{self.key}";\n')
-        names = "".join(f'    {name} "{roles}";\n' for name, roles in self.roles.items())
-        self.copy("clerks.conf", [("    # cora all;\n", 1, names)])
-        places = [("/etc/procure/clerks-key.conf", 1, f"{folder}/clerks-key.conf"), ("/var/log/procure/clerks.log", 1, f"{folder}/clerks.log")]
         if self.way == "password":
             self.write("passwords", "".join(f"{name}:{bcrypt(password)}\n" for name, password in self.passwords.items()))
         if self.way == "certificate":
-            places += [("/etc/procure/tls/clerks.pem", 1, f"{folder}/clerks.pem")]
             self.certify("clerks", None)
             for name in self.names:
                 self.certify(name, "clerks")
-        if not self.way:
-            return self.faults_of("nginx.conf")
-        included = f"clerks-{self.way}.conf"
-        self.copy(included, places)
-        return [*self.faults_of("nginx.conf"), (f"    # include /etc/procure/{included};", 1, f"    include {folder}/{included};")]
-
-    def faults_of(self, name: str) -> list[Change]:
-        return [(old, count, new) for file, old, count, new in self.faults if file == name]
+        names = "".join(f'    {name} "{roles}";\n' for name, roles in self.roles.items())
+        included = f"include /usr/share/procure/nginx/clerks-{self.way}.conf;"
+        return [("    # cora all;\n", 1, names), *([(f"# {included}", 1, included)] if self.way else [])]
 
     def write(self, name: str, text: str) -> None:
         Path(self.folder, name).write_text(text, encoding="utf-8")
-
-    def copy(self, name: str, changes: Iterable[Change]) -> None:
-        """A file of deploy/, changed."""
-        self.write(name, adapted(name, self.faults_of(name), changes))
 
     def certify(self, name: str, by: str | None, subject: str = "") -> None:
         """Makes a certificate of a name, signed by another name's or by its own key."""

@@ -1,5 +1,5 @@
-"""The front of deploy/nginx.conf over an office, for tests. Only the parts of the file that its head names are adapted, and nginx runs in a folder as the user
-of the test."""
+"""The front of deploy/front.conf and deploy/nginx/ over an office, for tests. Only ports, addresses and folders are adapted, and nginx runs in a folder as the
+user of the test."""
 import contextlib
 import http.client
 import json
@@ -20,7 +20,7 @@ OUTSIDE = "127.0.0.2"
 FILES = tomllib.loads(Path(__file__).with_suffix(".toml").read_text(encoding="utf-8"))
 PATIENCE = 60
 # For tests that ask for the ledger right after a command: nginx keeps it for a second, and doesn't show it while it asks again.
-LEDGER_OF_NOW = [("proxy_cache_valid 200 1m;", 1, "proxy_cache_valid 200 1s;"), ("        proxy_cache_background_update on;\n", 1, "")]
+LEDGER_OF_NOW = [("proxy_cache_valid 200 404 409 60s;", 1, "proxy_cache_valid 200 404 409 1s;"), ("    proxy_cache_background_update on;\n", 1, "")]
 
 
 class Answer(NamedTuple):
@@ -37,7 +37,7 @@ class Front:
 
     def __init__(self, folder: str, office: int, more: Iterable[Change] = (), signing: Signing | None = None) -> None:
         self.folder, self.office, self.port, self.plain_port, self.ways = folder, office, free_port(), free_port(), free_port()
-        self.signing, self.clerks = signing, os.path.join(folder if signing else os.path.join(ROOT, "deploy"), "clerks.conf")
+        self.signing = signing
         self.certificate = f"{folder}/certificate.pem"
         certify(f"{folder}/certificate", "/CN=office", None, "-addext", f"subjectAltName=IP:{HOST}")
         self.context = ssl.create_default_context(cafile=self.certificate)
@@ -46,7 +46,9 @@ class Front:
         names = {**vars(self), "host": HOST, "root": ROOT, "places": places, "user": "user root;" if os.geteuid() == 0 else ""}
         Path(folder, "nginx.conf").write_text(Template(FILES["main"]).substitute(names))
         changes = [(old, count, Template(new).substitute(names)) for old, count, new in FILES["changes"]]
-        Path(folder, "procure.conf").write_text(adapted("nginx.conf", more, ways, changes), encoding="utf-8")
+        Path(folder, "nginx").mkdir(exist_ok=True)
+        for name, text in adapted(more, ways, changes).items():
+            Path(folder, name).write_text(text, encoding="utf-8")
         self.words = [need("nginx", "nginx"), "-p", folder, "-e", f"{folder}/errors.log", "-c", f"{folder}/nginx.conf"]
         self.process = subprocess.Popen(self.words, stdin=subprocess.DEVNULL)
 

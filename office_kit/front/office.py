@@ -8,6 +8,8 @@ from typing import NamedTuple
 
 from office_kit.common import HOST
 
+# The query of the front about a key, and for /health.
+NO_NOTICES = "/notices?after=" + "z" * 32
 LEDGER = b"LEDGER\n" + b"1000\t1000\t1000\t0\t0\t0\n" * 100
 WRONG = b'{"name":"BadKey","refusal":6}'
 # An answer: its status, its body, and further fields of its head.
@@ -58,10 +60,12 @@ class StandIn(http.server.HTTPServer):
 
 
 class Office(StandIn):
-    """It keeps the requests. It answers a wrong key with 401, and all else with 200. While `held` is cleared it answers nobody; before each answer it waits."""
+    """It keeps the requests, and the front's questions about a key apart. It answers a wrong key with 401, and all else with 200. While `held` is cleared it
+    answers nobody; before each answer it waits."""
 
     def __init__(self) -> None:
         self.came: list[Request] = []
+        self.keys: list[Request] = []
         self.held, self.pause = threading.Event(), 0.0
         self.held.set()
         super().__init__()
@@ -69,7 +73,7 @@ class Office(StandIn):
     def answer(self, request: Request) -> Told:
         self.held.wait()
         time.sleep(self.pause)
-        self.came.append(request)
+        (self.keys if request.path == NO_NOTICES and "Office-Key" in request.head else self.came).append(request)
         if request.head.get("Office-Key", "").startswith("wrong"):
             return 401, WRONG, {"WWW-Authenticate": 'Office realm="office"'}
         if request.path == "/ledger":

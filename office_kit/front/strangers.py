@@ -1,9 +1,15 @@
-"""Fifty strangers who ask a front all that they may, for tests/front/test_deadline.py; and a clerk's screen that asks all of its queries, again and again.
+"""Clients who ask a front beside tenderers, for tests/front/test_deadline.py.
 
-    python3 -m office_kit.front.strangers PORT BEGIN END LINES      from and to a second of this machine's clock; LINES is how many budget lines there are
+    python3 -m office_kit.front.strangers KIND PORT BEGIN END LINES      from and to a second of this machine's clock; LINES is how many budget lines there are
 
-They connect at once, and ask from BEGIN on. Each has an address of its own (127.0.6.N, the clerk's screen 127.0.1.1) and several connections by TLS. At the end
-it prints, as JSON, how many answers of each status each kind got.
+KIND is one of
+- crowd: fifty strangers who ask all that they may, and a clerk's screen that asks all of its queries, again and again;
+- eager: strangers and a firm who never pause;
+- neighbour: somebody with the address of all tenderers, and with the clerk's, sends wrong keys under each of their names;
+- rival: a firm sends 400 tenders of 32 KiB for other lots, at once, from ten addresses;
+- citizens: two hundred ask for four budget lines each, at once.
+
+They connect at once, and ask from BEGIN on, by TLS. At the end the script prints, as JSON, how many answers of each status each kind got.
 """
 import asyncio
 import contextlib
@@ -20,6 +26,8 @@ from collections.abc import Coroutine, Iterator
 from office_kit.common import HOST
 
 LARGEST = 1 << 24
+# The address of all tenderers, where they have a neighbour.
+NEIGHBOUR = "127.0.8.1"
 # Seconds between two requests on a connection: all readers together ask for some 1,000 answers a second.
 PAUSE = 0.25
 RANDOM = random.Random(1)
@@ -87,6 +95,17 @@ class Strangers:
                 self.counts[f"{kind} closed"] += 1
                 await asyncio.sleep(pause)
 
+    async def once(self, kind: str, source: str, text: bytes) -> None:
+        """Asks one thing, on a connection made before. (The front closes one that is silent for 15 seconds.)"""
+        await asyncio.sleep(self.begin - 9 - time.time())
+        try:
+            streams = await self.connect(source)
+            with contextlib.closing(streams[1]):
+                await asyncio.sleep(self.begin - time.time())
+                self.counts[f"{kind} {await answered(streams, text)}"] += 1
+        except (OSError, asyncio.IncompleteReadError):
+            self.counts[f"{kind} closed"] += 1
+
     async def goes_away(self, source: str) -> None:
         """Asks for something dear, and closes the connection at once."""
         await asyncio.sleep(self.begin - time.time())
@@ -110,7 +129,7 @@ class Strangers:
                     await reader.read()
                 self.counts["slow closed"] += 1
 
-    def tasks(self) -> Iterator[Coroutine[None, None, None]]:
+    def crowd(self) -> Iterator[Coroutine[None, None, None]]:
         """25 are readers, each with as many connections as it may have requests in the front. 5 are monitors. 5 don't wait for answers. 5 submit tenders under
         names that they invent. 10 are slow."""
         sources = [f"127.0.6.{number}" for number in range(1, 51)]
@@ -121,14 +140,32 @@ class Strangers:
         yield from (self.is_slow(source, HALVES[at % 3]) for source in sources[40:] for at in range(20))
         yield from (self.asks("clerk", "127.0.1.1", itertools.cycle(OF_CLERK), 0.01) for _ in range(5))
 
-    async def run(self, end: float) -> None:
+    def eager(self) -> Iterator[Coroutine[None, None, None]]:
+        own = request("GET", "/notices/D/tenders", "R", "hello")
+        asked = {"lines": queries(self.lines), "monitor": itertools.cycle(HEALTH), "firm": itertools.cycle([own]), "inventor": self.invented}
+        yield from (self.asks(f"eager {kind}", f"127.0.5.{number}", texts, 0) for number, (kind, texts) in enumerate(asked.items(), 1) for _ in range(5))
+
+    def neighbour(self) -> Iterator[Coroutine[None, None, None]]:
+        guesses = [(NEIGHBOUR, request("POST", "/notices/D/lots/L1/tenders", f"T{number}", "wrong", b"x")) for number in range(1, 61)]
+        guesses.append(("127.0.1.1", request("POST", "/tenderers/T99", "clerk", "wrong", b"x")))
+        yield from (self.asks("neighbour", source, itertools.cycle([text]), 1.2) for source, text in guesses)
+
+    def rival(self) -> Iterator[Coroutine[None, None, None]]:
+        yield from (self.once("rival", f"127.0.5.{number // 40 + 1}", request("POST", f"/notices/R{number // 20}/lots/L{number % 20 + 1}/tenders", "R", "hello",
+                                                                          b"z" * 32_768)) for number in range(400))
+
+    def citizens(self) -> Iterator[Coroutine[None, None, None]]:
+        yield from (self.once("citizen", f"127.0.6.{number % 200 + 1}", request("GET", f"/lines/{100_000 + number % self.lines}")) for number in range(800))
+
+    async def run(self, kind: str, end: float) -> None:
+        kinds = {"crowd": self.crowd, "eager": self.eager, "neighbour": self.neighbour, "rival": self.rival, "citizens": self.citizens}
         with contextlib.suppress(TimeoutError):
             async with asyncio.timeout(end - time.time()), asyncio.TaskGroup() as group:
-                for task in self.tasks():
+                for task in kinds[kind]():
                     group.create_task(task)
 
 
 if __name__ == "__main__":
-    strangers = Strangers(int(sys.argv[1]), float(sys.argv[2]), int(sys.argv[4]))
-    asyncio.run(strangers.run(float(sys.argv[3])))
+    strangers = Strangers(int(sys.argv[2]), float(sys.argv[3]), int(sys.argv[5]))
+    asyncio.run(strangers.run(sys.argv[1], float(sys.argv[4])))
     print(json.dumps(strangers.counts))

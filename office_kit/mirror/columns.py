@@ -9,6 +9,9 @@ from office_kit.audit.office import json_object
 # A column: the name of its type in Frictionless' Table Schema, and its meaning. `state` and `status` differ: `state` is the office's word, `status` OCDS's.
 Column = tuple[str, str]
 WORD, WHOLE, TIME = "string", "integer", "datetime"
+# How the tables keep formulas out.
+GUARD = ("If a text in them begins with = + - or @, or has one of these right after a comma, a semicolon, a tab or |, an apostrophe is before that sign, so "
+         "that no spreadsheet reads it as a formula, however it parts the lines.")
 NOTICE = (WORD, "The procurement's identifier.")
 LOT = (WORD, "The lot's identifier, unique within its notice.")
 CURRENCY = (WORD, "The currency of all amounts in this row (ISO 4217). Amounts are whole units.")
@@ -83,16 +86,21 @@ TABLES: dict[str, dict[str, Column]] = {
         "free": (WHOLE, "The part that nothing is reserved for."), "reserved": (WHOLE, "The part for lots without a contract."),
         "contracted": (WHOLE, "The part that is contracted and still to pay."), "paid": (WHOLE, "The part that is paid."),
     },
+    "documents": {
+        "notice": NOTICE, "file": (WORD, "The name of the document, which is at /documents/NOTICE/FILE of the front."), "length": (WHOLE, "Its bytes."),
+        "sha256": (WORD, "The SHA-256 of its bytes. This version is kept as documents/SHA256, with the ending of the name."),
+        "seen": (TIME, "When this version was first seen here."), "until": (TIME, "When it was first seen that it is gone or has other bytes; empty before."),
+    },
 }
 COLUMNS = {table: list(columns) for table, columns in TABLES.items()}
 # The columns that identify a row, and those that refer to a row of another table.
 KEYS = {"notices": ["notice"], "lots": ["notice", "lot"], "items": ["notice", "lot", "item"], "tenders": ["receipt"], "awards": ["award"],
-        "contracts": ["contract"], "payments": ["contract", "payment"], "budget": ["line"]}
+        "contracts": ["contract"], "payments": ["contract", "payment"], "budget": ["line"], "documents": ["notice", "file", "seen"]}
 REFERS = {"lots": [("notice", "notices"), ("line", "budget")], "items": [("notice", "notices")], "tenders": [("notice", "notices")],
           "awards": [("notice", "notices")], "contracts": [("notice", "notices")], "payments": [("contract", "contracts")]}
 MEANS = {"notices": "Procurements.", "lots": "The lots of each procurement, with the budget line of each.", "items": "What is bought, by lot.",
          "tenders": "Tenders that were opened.", "awards": "Awards, also those that ended.", "contracts": "Contracts.", "payments": "Payments of contracts.",
-         "budget": "Budget lines and how their money is used."}
+         "budget": "Budget lines and how their money is used.", "documents": "Documents beside notices, with all versions. The office doesn't know them."}
 OTHERS = {"releases.jsonl": "All releases (OCDS 1.1), one on each line.", "compiled.jsonl": "The compiled release of each procurement, one on each line."}
 
 
@@ -131,7 +139,6 @@ def datapackage(base: str, author: str, city: dict[str, Any]) -> str:
     files = [{"name": path.removesuffix(".jsonl"), "path": path, **lines, "description": means} for path, means in OTHERS.items()]
     licences = licence_of(city)
     told = {"profile": "data-package", "name": "procurements", "title": f"Procurements: {author}", "homepage": f"{base}/",
-            "description": "Everything that a procurement office published. Amounts are whole units of the currency; times are UTC. In the tables a text that "
-                           "begins with = + - or @ has an apostrophe before it, so that no spreadsheet reads it as a formula.",
+            "description": f"Everything that a procurement office published. Amounts are whole units of the currency; times are UTC. {GUARD}",
             **({"licenses": licences} if licences else {}), "resources": [*map(resource, TABLES), *files]}
     return json.dumps(told, ensure_ascii=False, indent=1) + "\n"

@@ -4,9 +4,12 @@ An event is a row of TOLD; web/common/timeline.js has the same rows.
 """
 import datetime
 import functools
+import html
 import json
 import os
 import re
+import sys
+import zoneinfo
 from collections.abc import Callable
 from typing import Any
 
@@ -17,7 +20,9 @@ LANGUAGES = {"en": "English", "de": "Deutsch"}
 GROUPS = {"en": ",", "de": "."}
 MONTHS = {"en": "January February March April May June July August September October November December",
           "de": "Januar Februar März April Mai Juni Juli August September Oktober November Dezember"}
-DAYS = {"en": "{0} {1} {2}, {3} UTC", "de": "{0}. {1} {2}, {3} UTC"}
+DAYS, AT = {"en": "{0} {1} {2}", "de": "{0}. {1} {2}"}, {"en": "at", "de": "um"}
+# The German abbreviations of time zones, as browsers write them.
+ZONES = {"CET": "MEZ", "CEST": "MESZ", "EET": "OEZ", "EEST": "OESZ", "WET": "WEZ", "WEST": "WESZ"}
 TEXTS = os.path.join(os.path.dirname(os.path.dirname(os.path.dirname(os.path.realpath(__file__)))), "web", "common")
 LINE = re.compile(r'\s*("[A-Za-z0-9_.]+": (?:"(?:[^"\\]|\\.)*"|\[.*\])),?')
 
@@ -48,13 +53,34 @@ def money(language: str, value: Json) -> str:
     return f"{number(language, value['amount'])} {value['currency']}"
 
 
-def moment(language: str, text: str) -> str:
-    """A moment of the office, in UTC, as a reader writes it."""
+class Zone:
+    """The time zone of all pages and feeds: the city's, as city.json names it, or else UTC. (A file can't know the zone of its reader's browser.)"""
+
+    own: datetime.tzinfo = datetime.timezone.utc
+
+    @classmethod
+    def use(cls, name: object) -> None:
+        try:
+            cls.own = zoneinfo.ZoneInfo(str(name)) if name else datetime.timezone.utc
+        except (zoneinfo.ZoneInfoNotFoundError, ValueError, OSError):
+            print(f"mirror: there is no time zone {name}, so times are UTC", file=sys.stderr)
+            cls.own = datetime.timezone.utc
+
+
+def moment(language: str, text: str, is_day: bool = False) -> str:
+    """A moment of the office as the screens write it: a deadline to the second, and what is past by its day alone."""
     try:
-        at = datetime.datetime.strptime(text, "%Y-%m-%dT%H:%M:%SZ")
-    except ValueError:
+        at = datetime.datetime.strptime(text, "%Y-%m-%dT%H:%M:%SZ").replace(tzinfo=datetime.timezone.utc).astimezone(Zone.own)
+    except (ValueError, OverflowError):
         return text
-    return DAYS[language].format(at.day, MONTHS[language].split()[at.month - 1], f"{at.year:04}", at.strftime("%H:%M:%S"))
+    day = DAYS[language].format(at.day, MONTHS[language].split()[at.month - 1], f"{at.year:04}")
+    zone = at.strftime("%Z")
+    return day if is_day else f"{day} {AT[language]} {at.strftime('%H:%M:%S')} {ZONES.get(zone, zone) if language == 'de' else zone}"
+
+
+def time_of(language: str, text: str, is_day: bool = False) -> str:
+    """The same as HTML. Its title has the whole moment."""
+    return f'<time datetime="{html.escape(text)}" title="{html.escape(moment(language, text))}">{html.escape(moment(language, text, is_day))}</time>'
 
 
 class Teller:

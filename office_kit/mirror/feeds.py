@@ -2,7 +2,7 @@
 from xml.sax.saxutils import escape, quoteattr
 
 from office_kit.mirror.events import LANGUAGES, event, language_of, money, moment, say, state_of
-from office_kit.mirror.office import Notice
+from office_kit.mirror.office import Json, Notice
 
 # The number of entries in a feed, the newest first. Notices that take tenders are all in theirs.
 NEWEST = 100
@@ -16,9 +16,9 @@ def author(notices: list[Notice]) -> str:
     return str(notices[0].compiled["buyer"]["name"]) if notices else "The procurement office"
 
 
-def address(base: str, language: str, notice: Notice) -> str:
+def address(base: str, language: str, name: str) -> str:
     """The address of a procurement's page."""
-    return f"{base}/data/{language}/{notice.name}.html"
+    return f"{base}/data/{language}/{name}.html"
 
 
 def summary(language: str, notice: Notice, now: str) -> str:
@@ -56,7 +56,7 @@ def of_notices(base: str, path: str, language: str, notices: list[Notice], now: 
             moved = [release["date"] for release in one.releases if "tender" in release["tag"] or "tenderAmendment" in release["tag"]][-1]
             number, title = f"urn:ocds:{one.compiled['ocid']}", f"{one.row['title']} ({one.name})"
             told = summary(language, one, now)
-            entries.append((moved, entry(address(base, language, one), number, title, one.row["published"], moved, told)))
+            entries.append((moved, entry(address(base, language, one.name), number, title, one.row["published"], moved, told)))
     return feed_of(base, path, language, "notices", notices, entries, now)
 
 
@@ -66,7 +66,7 @@ def of_events(base: str, path: str, language: str, notices: list[Notice], now: s
     entries = []
     for date, number, one, release in releases[:NEWEST]:
         head, told = event(language, one, release)
-        entries.append((date, entry(address(base, language, one), f"urn:ocds:{number}", f"{head}: {one.row['title']} ({one.name})", date, date, told)))
+        entries.append((date, entry(address(base, language, one.name), f"urn:ocds:{number}", f"{head}: {one.row['title']} ({one.name})", date, date, told)))
     return feed_of(base, path, language, "feed", notices, entries, now)
 
 
@@ -81,15 +81,14 @@ def feeds(base: str, notices: list[Notice], now: str) -> dict[str, str]:
     return made
 
 
-def sitemaps(base: str, notices: list[Notice]) -> dict[str, str]:
+def sitemaps(base: str, known: dict[str, Json]) -> dict[str, str]:
     """The sitemap, with the page of each procurement in each language; with more than 50,000 addresses an index of several. And robots.txt, which names it."""
     begun = '<?xml version="1.0" encoding="utf-8"?>\n'
     names = 'xmlns="http://www.sitemaps.org/schemas/sitemap/0.9" xmlns:xhtml="http://www.w3.org/1999/xhtml"'
     pages = []
-    for one in notices:
-        others = "".join(f'<xhtml:link rel="alternate" hreflang="{tag}" href={quoteattr(address(base, tag, one))}/>' for tag in LANGUAGES)
-        date = one.releases[-1]["date"]
-        pages += [f"<url><loc>{escape(address(base, tag, one))}</loc><lastmod>{escape(date)}</lastmod>{others}</url>\n" for tag in LANGUAGES]
+    for name, it in known.items():
+        others = "".join(f'<xhtml:link rel="alternate" hreflang="{tag}" href={quoteattr(address(base, tag, name))}/>' for tag in LANGUAGES)
+        pages += [f"<url><loc>{escape(address(base, tag, name))}</loc><lastmod>{escape(it['last'])}</lastmod>{others}</url>\n" for tag in LANGUAGES]
     parts = [pages[at:at + MOST] for at in range(0, len(pages), MOST)]
     maps = [f"{begun}<urlset {names}>\n{''.join(part)}</urlset>\n" for part in parts or [[]]]
     robots = {"robots.txt": f"User-agent: *\nDisallow: /clerk/\nSitemap: {base}/data/sitemap.xml\n"}

@@ -3,22 +3,17 @@ import html
 import json
 from xml.sax.saxutils import quoteattr
 
-from office_kit.mirror.events import LANGUAGES, event, money, moment, number, say, state_of
+from office_kit.mirror.events import LANGUAGES, event, money, number, say, state_of, time_of
 from office_kit.mirror.feeds import address, author, summary
 from office_kit.mirror.office import Json, Notice
-from office_kit.mirror.tables import Cell, lot_rows, tender_rows
+from office_kit.mirror.tables import Cell, award_rows, lot_rows, tender_rows
 
-# The style of these pages, on screens and on paper.
-STYLE = """body { font-family: system-ui, sans-serif; line-height: 1.5; margin: 0 auto; max-width: 50rem; padding: 1rem; }
-table { border-collapse: collapse; }
-th, td { border-bottom: 1px solid; padding: 0.25rem 1rem 0.25rem 0; text-align: start; vertical-align: top; }
-td.number, th.number { text-align: end; }
-dt { font-weight: bold; }
-dd { margin: 0 0 0.5rem; }
+# The style of these pages besides the portal's (page.css), which other hosts of the files may not have.
+STYLE = """td.number, th.number { text-align: end; font-variant-numeric: tabular-nums; }
+nav { display: flex; flex-wrap: wrap; gap: 0 1.25rem; }
 @media print {
   @page { margin: 2cm; }
-  nav { display: none; }
-  body { color: black; background: white; max-width: none; padding: 0; }
+  header, nav { display: none; }
   h2, h3 { break-after: avoid; }
   tr, li { break-inside: avoid; }
   .source a::after { content: " (" attr(href) ")"; }
@@ -47,7 +42,7 @@ def structured(base: str, language: str, notice: Notice, now: str) -> str:
     price = {"@type": "PriceSpecification", "price": tender["value"]["amount"], "priceCurrency": tender["value"]["currency"]}
     demand: Json = {
         "@type": "Demand", "@id": f"urn:ocds:{notice.compiled['ocid']}", "identifier": notice.compiled["ocid"], "name": notice.row["title"],
-        "description": summary(language, notice, now), "url": address(base, language, notice), "validFrom": notice.row["published"],
+        "description": summary(language, notice, now), "url": address(base, language, notice.name), "validFrom": notice.row["published"],
         "availabilityStarts": notice.row["published"], "validThrough": notice.row["deadline"], "availabilityEnds": notice.row["deadline"],
         "priceSpecification": price, "itemOffered": offered}
     told = {"@context": "https://schema.org", "@type": "GovernmentOrganization", "name": author([notice]), "seeks": demand}
@@ -59,9 +54,9 @@ def head(base: str, language: str, notice: Notice, now: str) -> str:
     bought = ", ".join(item["description"] for item in notice.compiled["tender"].get("items", []))
     told = f"{summary(language, notice, now)} {say(language, 'see.items')}: {bought}" if bought else summary(language, notice, now)
     told = told if len(told) <= MOST else told[:MOST - 1] + "…"
-    own = address(base, language, notice)
+    own = address(base, language, notice.name)
     preview = {"og:type": "website", "og:title": title, "og:description": told, "og:url": own, "og:site_name": author([notice]), "og:locale": language}
-    others = "".join(f'<link rel="alternate" hreflang="{tag}" href={quoteattr(address(base, tag, notice))}>\n' for tag in LANGUAGES)
+    others = "".join(f'<link rel="alternate" hreflang="{tag}" href={quoteattr(address(base, tag, notice.name))}>\n' for tag in LANGUAGES)
     return f"""<!DOCTYPE html>
 <html lang="{language}">
 <head>
@@ -73,6 +68,7 @@ def head(base: str, language: str, notice: Notice, now: str) -> str:
 {"".join(f'<meta property="{name}" content={quoteattr(value)}>{chr(10)}' for name, value in preview.items())}<meta name="twitter:card" content="summary">
 <link rel="canonical" href={quoteattr(own)}>
 {others}<link rel="alternate" type="application/atom+xml" href="notices.atom">
+<link rel="stylesheet" href="/page.css">
 <link rel="stylesheet" href="../notices.css">
 <script type="application/ld+json">{structured(base, language, notice, now)}</script>
 </head>
@@ -80,16 +76,16 @@ def head(base: str, language: str, notice: Notice, now: str) -> str:
 
 
 def facts(rows: list[tuple[str, str]]) -> str:
-    return "<dl>\n" + "".join(f"<dt>{html.escape(name)}</dt><dd>{value}</dd>\n" for name, value in rows) + "</dl>\n"
+    return '<dl class="terms">\n' + "".join(f"<dt>{html.escape(name)}</dt><dd>{value}</dd>\n" for name, value in rows) + "</dl>\n"
 
 
-def lot(language: str, notice: Notice, row: Json, tenders: list[Json]) -> str:
+def lot(language: str, notice: Notice, row: Json, tenders: list[Json], titles: dict[str, str]) -> str:
     """A lot: its budget line and money, what is bought, and the tenders that were opened."""
     words = WORDS[language]
 
     def amount(value: int) -> str:
         return html.escape(money(language, {"amount": value, "currency": row["currency"]}))
-    told = [(say(language, "see.line"), text(row["line"])), (say(language, "see.estimate"), amount(row["estimate"]))]
+    told = [(say(language, "see.line"), text(f"{row['line']} {titles.get(row['line'], '')}".strip())), (say(language, "see.estimate"), amount(row["estimate"]))]
     if row["security"]:
         told.append((say(language, "see.security.asked"), amount(row["security"])))
     if row["winner_name"]:
@@ -108,10 +104,28 @@ def lot(language: str, notice: Notice, row: Json, tenders: list[Json]) -> str:
             f"<th class=\"number\">{words['quantity']}</th></tr></thead>\n<tbody>\n{bought}</tbody>\n</table>\n")
     if not tenders:
         return made
-    opened = "".join(f'<tr><td>{number(language, int(it["receipt"]))}</td><td>{text(it["name"])}</td>'
-                     f'<td class="number">{price_of(language, it)}</td></tr>\n' for it in tenders)
-    return made + (f"<table>\n<caption>{say(language, 'see.tenders')}</caption>\n<thead><tr><th>{say(language, 'see.tender.receipt', receipt='').strip()}</th>"
-                   f"<th>{say(language, 'see.tenderer')}</th><th class=\"number\">{words['sum']}</th></tr></thead>\n<tbody>\n{opened}</tbody>\n</table>\n")
+    awards = {it["tenderer"]: it for it in award_rows(notice) if it["lot"] == row["lot"]}
+    found = {it["receipt"]: outcome(it, row, awards) for it in tenders}
+    best = sorted(tenders, key=lambda it: (found[it["receipt"]] != "won", it.get("corrected", float("inf")), int(it["receipt"])))
+    opened = "".join(f'<tr><td>{text(it["name"])}</td><td>{number(language, int(it["receipt"]))}</td><td class="number">{price_of(language, it)}</td>'
+                     f"<td>{html.escape(say(language, 'see.outcome.' + found[it['receipt']]))}</td></tr>\n" for it in best)
+    return made + (f"<table>\n<caption>{say(language, 'see.tenders')}</caption>\n<thead><tr><th>{say(language, 'see.tenderer')}</th>"
+                   f"<th>{say(language, 'see.tender.receipt', receipt='').strip()}</th><th class=\"number\">{words['sum']}</th>"
+                   f"<th>{say(language, 'see.found')}</th></tr></thead>\n<tbody>\n{opened}</tbody>\n</table>\n")
+
+
+def outcome(tender: Json, lot: Json, awards: dict[str, Json]) -> str:
+    """The result of an opened tender of a lot, as the screens name it (`see.outcome.*`). `awards` has the last award of each tenderer of this lot."""
+    award, is_open = awards.get(tender["tenderer"]), lot["status"] == "active" and not lot["winner"]
+    if tender["reading"] != "priced":
+        return str(tender["reading"])
+    if award:
+        return "won" if award["status"] == "active" else "awardended" if lot["status"] == "cancelled" else "passed"
+    if tender.get("answer") == "unresponsive" or tender.get("standing") == "failed":
+        return "unresponsive" if tender.get("answer") == "unresponsive" else "late"
+    if is_open:
+        return "admissible" if tender.get("answer") else "waits"
+    return "unexamined" if not tender.get("answer") else "notchosen" if awards else "undecided"
 
 
 def price_of(language: str, row: Json) -> str:
@@ -121,31 +135,39 @@ def price_of(language: str, row: Json) -> str:
     return html.escape(money(language, {"amount": row["corrected"], "currency": row["currency"]}))
 
 
+def portal_of(base: str, language: str, notice: Notice) -> str:
+    return f"{base}/?language={language}#notice/{notice.name}"
+
+
 def sources(base: str, language: str, notice: Notice) -> str:
     """The answers of which the page is made, and the portal."""
     links = [(f"../{folder}/{notice.name}.{'json' if folder in ('records', 'terms') else 'txt'}", WORDS[language][word])
              for folder, word in SOURCES.items() if folder in notice.texts]
-    links.append((f"{base}/?language={language}#notice/{notice.name}", WORDS[language]["portal"]))
+    links.append((portal_of(base, language, notice), WORDS[language]["portal"]))
     return '<ul class="source">\n' + "".join(f"<li><a href={quoteattr(link)}>{html.escape(name)}</a></li>\n" for link, name in links) + "</ul>\n"
 
 
-def page_of(base: str, language: str, notice: Notice, now: str) -> str:
-    """The page of a procurement in a language. (It has no moment of the run, so it stays the same file while nothing happens.)"""
+def page_of(base: str, language: str, notice: Notice, now: str, titles: dict[str, str]) -> str:
+    """The page of a procurement in a language; `titles` are those of budget lines. (It has no moment of the run: it stays the same while nothing happens.)"""
     tender, lots, tenders = notice.compiled["tender"], list(lot_rows(notice)), tender_rows(notice)
     told = [(say(language, "see.notice"), text(notice.name)), (say(language, "see.buyer"), text(author([notice]))),
             (say(language, "see.state"), html.escape(say(language, f"see.state.{state_of(notice, now)}"))),
-            (say(language, "see.published"), html.escape(moment(language, notice.row["published"]))),
-            (say(language, "see.deadline"), html.escape(moment(language, notice.row["deadline"]))),
+            (say(language, "see.published"), time_of(language, notice.row["published"], is_day=True)),
+            (say(language, "see.deadline"), time_of(language, notice.row["deadline"])),
             (say(language, "see.estimate"), html.escape(money(language, tender["value"])))]
     if tender.get("numberOfTenderers") is not None:
         told.append((say(language, "see.tenderers"), number(language, tender["numberOfTenderers"])))
-    happened = "".join("<li><b>{}</b>, {}: {}</li>\n".format(html.escape(name), html.escape(moment(language, release["date"])), text(what))
+    happened = "".join("<li><b>{}</b>, {}: {}</li>\n".format(html.escape(name), time_of(language, release["date"], is_day=True), text(what))
                        for release in notice.releases for name, what in [event(language, notice, release)])
     others = ", ".join(f'<a href={quoteattr(f"../{tag}/{notice.name}.html")} hreflang="{tag}" lang="{tag}">{name}</a>'
                        for tag, name in LANGUAGES.items() if tag != language)
-    each = "".join(lot(language, notice, row, [it for it in tenders if it["lot"] == row["lot"]]) for row in lots)
+    each = "".join(lot(language, notice, row, [it for it in tenders if it["lot"] == row["lot"]], titles) for row in lots)
     return f"""{head(base, language, notice, now)}<body>
-<nav><a href="../index.html">{WORDS[language]["data"]}</a> · {others}</nav>
+<header>
+<p class="site">{html.escape(author([notice]))}</p>
+<nav><a href="{html.escape(portal_of(base, language, notice))}">{WORDS[language]["portal"]}</a>
+<a href="../index.html">{WORDS[language]["data"]}</a> {others}</nav>
+</header>
 <main>
 <h1>{text(notice.row["title"])}</h1>
 {facts(told)}<h2>{say(language, "see.lots.title")}</h2>
@@ -157,9 +179,3 @@ def page_of(base: str, language: str, notice: Notice, now: str) -> str:
 </body>
 </html>
 """
-
-
-def notice_pages(base: str, notices: list[Notice], now: str) -> dict[str, str]:
-    """The page of each procurement in each language, by their paths, and their style."""
-    pages = {f"{language}/{one.name}.html": page_of(base, language, one, now) for one in notices for language in LANGUAGES}
-    return {**pages, "notices.css": STYLE}

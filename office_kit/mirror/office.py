@@ -1,4 +1,5 @@
 """Asks an office for `tools/mirror`, and keeps of each notice its row in the list, its record, terms, minutes and evaluation."""
+import functools
 import json
 import os
 import re
@@ -15,6 +16,10 @@ IDENTIFIER = re.compile(r"[A-Za-z0-9_.-]{1,32}")
 TRIES = 5
 # The folders of a mirror with the texts of each notice as the office wrote them, and the endings of their files.
 KEPT = {"records": ".json", "terms": ".json", "minutes": ".txt", "evaluations": ".txt"}
+
+
+# The columns of the ledger, and the seconds after which other titles of lines are asked for.
+LINE, TURN = ("line", "appropriation", "free", "reserved", "contracted", "paid"), 300
 
 
 def text_of(value: Any) -> str:
@@ -55,7 +60,7 @@ class Notice:
     def compiled(self) -> Json:
         return dict(self.record["compiledRelease"])
 
-    @property
+    @functools.cached_property
     def terms(self) -> Json:
         return dict(json.loads(self.texts["terms"]))
 
@@ -110,43 +115,47 @@ class Office:
                 return found
         raise Unreadable(f"{self.base}: {name} changed during each of {TRIES} tries: run this again later")
 
-    def budget(self) -> tuple[str, list[Json]]:
-        """The ledger, and its lines, each with its title."""
-        ledger = self.must("/ledger")
-        return ledger, [json.loads(self.must("/lines/" + line.split("\t")[0])) for line in ledger.split("\n")[2:-1]]
+    def budget(self, before: str, titles: dict[str, str], again: int) -> tuple[str, list[Json]]:
+        """The ledger, and its lines, each with its title. `before` and `titles` are those of the run before. A title comes with a row of a budget file, so the
+        office is asked for the titles of lines that changed, and for some others in turn."""
+        ledger, known_lines = self.must("/ledger"), set(before.split("\n"))
+        lines, turn = ledger.split("\n")[2:-1], int(time.time()) // TURN * again
+        others = {(turn + at) % len(lines) for at in range(again) if lines}
+        found = []
+        for at, line in enumerate(lines):
+            row: Json = {name: word if name == "line" else int(word) for name, word in zip(LINE, line.split("\t"))}
+            known = titles.get(row["line"]) if line in known_lines and at not in others else None
+            found.append({**row, "title": json.loads(self.must(f"/lines/{row['line']}"))["title"] if known is None else known})
+        return ledger, found
 
 
 class Kept:
-    """The files that a folder keeps from the run before; none if there was no run."""
+    """The parts of a folder that stay from the run before; nothing if there was no run. `rows` are those of the list, `known` the notes about each notice."""
 
     def __init__(self, folder: str) -> None:
-        self.folder, self.state = folder, Json()
-        path = os.path.join(folder, "mirror.json")
-        if os.path.exists(path):
-            with open(path, encoding="utf-8") as file:
-                self.state = json.load(file)
+        self.folder = folder
+        self.state: Json = self.value("mirror.json")
+        self.rows: dict[str, Json] = {row["notice"]: row for row in self.value("list.json").get("notices", [])}
+        noted = self.value("kept.json")
+        self.known: dict[str, Json] = {name: it for name, it in noted.get("notices", {}).items() if name in self.rows}
+        self.documents: Json = noted.get("documents", {})
 
-    @property
-    def base(self) -> str | None:
-        return self.state.get("base")
-
-    def names(self) -> list[str]:
-        return list(self.state.get("notices", {}))
-
-    def looked(self, name: str) -> str:
-        return str(self.state.get("notices", {}).get(name, {}).get("looked", ""))
+    def value(self, path: str) -> Json:
+        return dict(json.loads(self.saved(path) or "{}"))
 
     def saved(self, *path: str) -> str | None:
-        place = os.path.join(self.folder, *path)
-        if not os.path.exists(place):
-            return None
-        with open(place, encoding="utf-8", newline="") as file:
-            return file.read()
+        return saved(self.folder, *path)
 
-    def notice(self, name: str) -> Notice | None:
-        """The data that is kept of a notice, as it was last fetched."""
-        told = self.state.get("notices", {}).get(name)
-        if told is None:
-            return None
-        texts = {folder: self.saved(folder, name + end) for folder, end in KEPT.items()}
-        return Notice(told["row"], told["looked"], {folder: text for folder, text in texts.items() if text is not None})
+
+def saved(*path: str) -> str | None:
+    """The text of a file, or None if it doesn't exist."""
+    if not os.path.exists(os.path.join(*path)):
+        return None
+    with open(os.path.join(*path), encoding="utf-8", newline="") as file:
+        return file.read()
+
+
+def texts_in(folder: str, name: str) -> dict[str, str]:
+    """The answers about a notice that a mirror has, by their folders."""
+    texts = {kind: saved(folder, kind, name + end) for kind, end in KEPT.items()}
+    return {kind: text for kind, text in texts.items() if text is not None}

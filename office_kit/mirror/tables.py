@@ -1,27 +1,55 @@
 """The tables of `tools/mirror`: what each has of a notice, from its record, terms, minutes and evaluation."""
 import csv
 import io
+import re
 from collections.abc import Iterable, Iterator
 from typing import Any
 
-from office_kit.mirror.columns import COLUMNS
-from office_kit.mirror.office import Json, Notice
+from office_kit.mirror.columns import COLUMNS, TABLES, TIME
+from office_kit.mirror.office import Json, Notice, text_of
 
 Cell = str | int | None
+# The tables for people whose spreadsheets have commas in numbers: their folder, the sign that ends a field, and the mark at the start of a file.
+FORMS = {"": (",", ""), "de/": (";", "\ufeff")}
+# The names of documents, as they are in addresses.
+NAMED = re.compile(r"[A-Za-z0-9_-][A-Za-z0-9_.-]{0,99}")
+# Where a spreadsheet may see a formula: at the beginning of a field, also if it parts the line at other signs than those of the file.
+FORMULA = re.compile(r"(^|[,;\t|])('*)(?=[=+\-@\t\r])")
+GUARDED = re.compile(r"(^|[,;\t|])'('*)(?=[=+\-@\t\r])")
 
 
-def guarded(cell: Cell) -> Cell:
-    """A cell as it is written. A text that a sheet would take for a formula gets an apostrophe in front."""
-    return f"'{cell}" if isinstance(cell, str) and cell[:1] in ("=", "+", "-", "@", "\t", "\r") else cell
+def guarded(text: str) -> str:
+    """A text as tables have it: with an apostrophe wherever a sheet would take what follows for a formula."""
+    return FORMULA.sub(r"\1'\2", text)
 
 
-def table(name: str, rows: Iterable[Json]) -> str:
-    """A table as RFC 4180 has it, with a row of names."""
+def plain(cell: str) -> str:
+    """The text that such a cell has."""
+    return GUARDED.sub(r"\1\2", cell)
+
+
+def cell_of(name: str, column: str, value: Cell, folder: str) -> Cell:
+    if folder and value and TABLES[name][column][0] == TIME:
+        day, clock = str(value)[:10], str(value)[11:19]
+        return f"{day[8:]}.{day[5:7]}.{day[:4]} {clock}"
+    return guarded(value) if isinstance(value, str) else value
+
+
+def rows_text(name: str, rows: Iterable[Json], folder: str = "") -> str:
+    """Rows as RFC 4180 has them, in the form of a folder of tables."""
     out = io.StringIO()
-    writer = csv.writer(out)
-    writer.writerow(COLUMNS[name])
-    writer.writerows([guarded(row.get(column)) for column in COLUMNS[name]] for row in rows)
+    csv.writer(out, delimiter=FORMS[folder][0]).writerows([cell_of(name, column, row.get(column), folder) for column in COLUMNS[name]] for row in rows)
     return out.getvalue()
+
+
+def head_of(name: str, folder: str = "") -> str:
+    """The beginning of a table: its row of names."""
+    separator, mark = FORMS[folder]
+    return mark + separator.join(COLUMNS[name]) + "\r\n"
+
+
+def table(name: str, rows: Iterable[Json], folder: str = "") -> str:
+    return head_of(name, folder) + rows_text(name, rows, folder)
 
 
 def tenderer_of(party: Json) -> str:
@@ -124,8 +152,22 @@ ROWS: dict[str, Any] = {"notices": notice_rows, "lots": lot_rows, "items": item_
                         "payments": payment_rows}
 
 
-def tables(notices: list[Notice], budget: list[Json]) -> dict[str, str]:
-    """All tables, by their files' names."""
-    made = {f"{name}.csv": table(name, (row for notice in notices for row in rows(notice))) for name, rows in ROWS.items()}
-    currency = currency_of(notices[0]) if notices else None
-    return {**made, "budget.csv": table("budget", ({**line, "currency": currency} for line in budget))}
+# The files with a part for each notice, and their beginnings.
+HEADS = {"releases.jsonl": "", "compiled.jsonl": "", **{f"{folder}{name}.csv": head_of(name, folder) for folder in FORMS for name in ROWS}}
+
+
+def parts_of(notice: Notice) -> dict[str, str]:
+    """The part of each of these files that a notice has."""
+    made = {name: list(rows(notice)) for name, rows in ROWS.items()}
+    return {"releases.jsonl": "".join(f"{text_of(it)}\n" for it in notice.releases), "compiled.jsonl": f"{text_of(notice.compiled)}\n",
+            **{f"{folder}{name}.csv": rows_text(name, rows, folder) for folder in FORMS for name, rows in made.items()}}
+
+
+def whole(name: str, rows: list[Json]) -> dict[str, str]:
+    """A table that has no parts of notices, in each form, by its files' names."""
+    return {f"{folder}{name}.csv": table(name, rows, folder) for folder in FORMS}
+
+
+def titles_of(budget: str) -> dict[str, str]:
+    """The titles of the lines in a table of budget lines."""
+    return {row["line"]: plain(row["title"]) for row in csv.DictReader(io.StringIO(budget, newline=""))}

@@ -1,4 +1,5 @@
-"""The trials of tests/store/test_broken.py: the office that it makes, each command, and each row or sum that the command's rule needs (broken_trials.sql).
+"""The trials of tests/store/test_broken.py. They have the office that it makes, each command, and each row that the command's own row refers to. They also have
+each row that would belong to a row that the command makes. broken_trials.sql has the other rows and sums that a rule needs.
 
 `crates/tender_core/specs/Rules` and `crates/award_core/specs/Rules` say which rows a rule reads, `office_publications` which rows a publication reads.
 """
@@ -84,6 +85,62 @@ MOVES = {
 }
 
 
+# Which rows refer to which: a table, its columns, and the table whose key they are (crates/office_machine/specs/Parents.antt). A seal and a security have the
+# number of a receipt, a contract and its performance security that of an award (specs/References.antt there).
+REFERENCES = [tuple(line.split(" > ")) for line in """\
+lots > notice > notices_2
+lots > line > lines
+envelopes > notice > notices_2
+envelopes > notice, lot > lots
+envelopes > tenderer > tenderers
+envelopes > security > securities
+seals > receipt > envelopes
+securities > notice > notices_2
+securities > notice, lot > lots
+securities > tenderer > tenderers
+securities > security > envelopes
+awards > notice > notices_2
+awards > notice, lot > lots
+awards > receipt > envelopes
+contracts > notice > notices_2
+contracts > notice, lot > lots
+contracts > tenderer > tenderers
+contracts > contract > awards
+entries > contract > contracts
+entries > contract > awards
+performance > contract > contracts
+performance > contract > awards
+releases > notice > notices_2
+compiled > notice > notices_2
+late_rules > notice > notices_2""".splitlines()]
+KEYS = {"notices_2": "notice", "lots": "notice, lot", "lines": "line", "tenderers": "tenderer", "envelopes": "receipt", "securities": "security",
+        "awards": "award", "contracts": "contract"}
+# A command's own row, and the tables of which it needs the row that its own row leads to. It may be accepted without a row of another table.
+TENDER, AWARDED, SIGNED = "notices_2 lots tenderers securities", "notices_2 lots lines envelopes securities", "notices_2 lots lines"
+NEEDS = {
+    "amend_notice": ("notices_2", "notice = 'R'", ""), "present": ("lots", "notice = 'R' AND lot = 'L1'", "notices_2"),
+    "open": ("seals", "receipt = {F1}", "notices_2 lots"),
+    "modify": ("envelopes", "receipt = {R1}", TENDER), "withdraw": ("envelopes", "receipt = {R1}", TENDER),
+    "withdraw, late": ("envelopes", "receipt = {F1}", TENDER), "withdraw, opened": ("envelopes", "receipt = {E1}", TENDER),
+    "examine": ("envelopes", "receipt = {E1}", "notices_2 lots"),
+    "award": ("lots", "notice = 'A' AND lot = 'L1'", "notices_2 lines"), "award, to nobody": ("lots", "notice = 'A' AND lot = 'L2'", "notices_2 lines"),
+    "fail": ("awards", "award = {awarded}", AWARDED), "sign": ("awards", "award = {awarded}", AWARDED), "raise": ("contracts", "contract = {contract}", SIGNED),
+    "cut": ("contracts", "contract = {contract}", SIGNED), "pay": ("contracts", "contract = {contract}", SIGNED + " tenderers"),
+    "end": ("contracts", "contract = {contract}", SIGNED),
+}
+# The reports of a missing row, besides `Unavailable`: the command's own row, its caller, and a few that its rule names earlier.
+THINGS = {"notices_2": "NoSuch notice", "lots": "NoSuch lot", "envelopes": "NoSuch tender", "awards": "NoSuch award", "contracts": "NoSuch contract"}
+REPORTED = {**{(command, "tenderers"): "BadKey" for command in ("modify", "withdraw", "withdraw, late", "withdraw, opened")},
+            **{(command, "notices_2"): "NoSuch notice" for command in ("present", "award", "award, to nobody")}, ("open", "notices_2"): "NoSuch notice",
+            ("raise", "lots"): "InsufficientFunds", ("raise", "lines"): "InsufficientFunds", ("withdraw, opened", "notices_2"): "NotSealed"}
+# The rows that a command makes, and the tables whose rows no key and no index finds from them.
+NEXT = {table: f"(SELECT {table.replace('envelopes', 'receipts')} + 1 FROM office)" for table in ("envelopes", "awards")}
+MAKES = {"import, a new line": ("lines", "'3000'", ""), "register": ("tenderers", "'T9'", "envelopes securities contracts"),
+         "publish": ("notices_2", "'N'", ""),
+         "present": ("envelopes", NEXT["envelopes"], "awards"), "modify": ("envelopes", NEXT["envelopes"], "awards"), "award": ("awards", NEXT["awards"], ""),
+         "sign": ("contracts", "{awarded}", "")}
+
+
 class Trial(NamedTuple):
     """A command over a broken office: its name, the command, the script that breaks the office, and the refusal that it may have besides `Unavailable`."""
 
@@ -98,7 +155,33 @@ PUBLISHING = {"amend_notice": "R", "cancel": "R", "open": "F", "award": "A", "fa
 GROUPS = {"each publication": [*PUBLISHING], "fail and pay": ["fail", "pay"]}
 
 
+def missing_rows() -> Iterator[Trial]:
+    """Each command without each row that its own row leads to."""
+    for command, (own, where, needed) in NEEDS.items():
+        found = {own: where}
+        while more := {parent: f"({KEYS[parent]}) IN (SELECT {columns} FROM {child} WHERE {found[child]})"
+                       for child, columns, parent in REFERENCES if child in found and parent not in found}:
+            found.update(more)
+        for table, rows in found.items():
+            if own in KEYS or table != own:
+                says = REPORTED.get((command, table), THINGS[own] if table == own else "" if table in needed.split() else MAY)
+                yield Trial(f"{command}, no row in {table}", command, f"DELETE FROM {table} WHERE {rows};", says)
+
+
+def taken_keys() -> Iterator[Trial]:
+    """Each command that makes a row, over each row that would belong to it."""
+    for command, (made, key, unseen) in MAKES.items():
+        for child, column, parent in REFERENCES:
+            if parent == made and "," not in column:
+                change = f"UPDATE {child} SET {column} = {key} WHERE rowid = (SELECT max(rowid) FROM {child});"
+                yield Trial(f"{command}, a row in {child} is there", command, change, MAY if child in unseen.split() else "")
+        if made in ("envelopes", "awards", "contracts"):
+            yield Trial(f"{command}, its number is taken", command, f"UPDATE {made} SET {KEYS[made]} = {key} WHERE rowid = (SELECT max(rowid) FROM {made});")
+
+
 def trials() -> Iterator[Trial]:
+    yield from missing_rows()
+    yield from taken_keys()
     for (head,), script in scripts_of("broken_trials.sql"):
         group, what, *says = head.split(": ")
         for command in GROUPS.get(group, [group]):

@@ -1,4 +1,6 @@
-"""Files of version 1, for tests: the texts of tests/version_1, files that SQLite makes of statements, and their rows in version 2."""
+"""Files of version 1, for tests: the statements that crates/tests_of_stores has of them, files that SQLite makes of these, and their rows in version 2."""
+import json
+import re
 import sqlite3
 from contextlib import closing
 from pathlib import Path
@@ -6,13 +8,23 @@ from typing import Any
 
 from office_kit.common import ROOT
 from office_kit.store import pages
-from office_kit.store.files import VERSION_1, scripts_of
+from office_kit.store.files import scripts_of
 
 Rows = dict[str, list[tuple[Any, ...]]]
+TEXT = re.compile(r'pub const (\w+): &str =\s*(?:r##"(.*?)"##|("(?:[^"\\]|\\.)*"));', re.S)
 
 
-def text_of(name: str) -> str:
-    return (VERSION_1 / name).read_text(encoding="utf-8")
+def texts_of(file: str) -> dict[str, str]:
+    """The texts in a source of crates/tests_of_stores, by their names."""
+    source = Path(ROOT, "crates", "tests_of_stores", "src", file).read_text(encoding="utf-8")
+    return {name: raw or json.loads(text) for name, raw, text in TEXT.findall(source)}
+
+
+def first(name: str) -> tuple[str, str]:
+    """The statements that make the file `running` or `ten` of version 1, and its ledger."""
+    texts = texts_of("first_files.rt")
+    rows, lots, ledger = (texts[f"{name.upper()}_{part}"] for part in ("ROWS", "LOTS", "LEDGER"))
+    return texts["FIRST_TABLES"] + rows + lots, ledger
 
 
 def statements_in(name: str) -> dict[str, str]:

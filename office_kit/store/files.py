@@ -20,13 +20,15 @@ VERSION_1 = Path(__file__).parents[2] / "tests" / "version_1"
 
 
 def scripts_of(name: str | Path, mark: str = "-- ") -> list[tuple[list[str], str]]:
-    """The scripts of a file, which is in this folder unless its path is absolute, each with the lines of the comment before it. A blank line ends a script."""
-    found = []
-    for part in (Path(__file__).parent / name).read_text(encoding="utf-8").split("\n\n"):
-        lines = part.splitlines()
-        said = [line.removeprefix(mark) for line in lines if line.startswith(mark)]
-        found.append((said, "\n".join(lines[len(said):])))
-    return [(said, script) for said, script in found if script]
+    """The scripts of a file, which is in this folder unless its path is absolute, each with the lines of the comment before it. The next comment or a blank
+    line ends a script."""
+    found: list[tuple[list[str], list[str]]] = []
+    for line in (Path(__file__).parent / name).read_text(encoding="utf-8").splitlines():
+        if not line or line.startswith(mark) and (not found or found[-1][1]):
+            found.append(([], []))
+        if line:
+            found[-1][not line.startswith(mark)].append(line.removeprefix(mark))
+    return [(said, "\n".join(script)) for said, script in found if script]
 
 
 def made_line(path: str) -> str:

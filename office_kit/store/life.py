@@ -2,13 +2,12 @@
 
 It takes five seconds, mostly waiting for a deadline.
 """
-import math
 import re
 import time
 from collections.abc import Mapping
 from typing import Any
 
-from office_kit.client import AHEAD, Answer, Asking, Client, budget, lot, notice, tender, text_of, wait_until
+from office_kit.client import AHEAD, Answer, Asking, Client, ahead, budget, lot, notice, tender, text_of, wait_until
 from office_kit.common import fail
 
 # The items of each lot.
@@ -43,7 +42,7 @@ class Life(Client[Answer]):
         begun = time.monotonic()
         for name in names:
             self.register(name, f"Firm {name}", f"{name} Street")
-        self.deadline = int(time.time()) + max(AHEAD, math.ceil(25 * (time.monotonic() - begun)))
+        self.deadline = ahead(begun, 25)
 
     def announce(self, name: str, deadline: float, *lots: Mapping[str, Any], **terms: Any) -> None:
         self.publish(name, notice(text_of(deadline), *lots, title=f"Notice {name} <b>Straße</b>", **terms))

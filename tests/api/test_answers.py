@@ -27,7 +27,6 @@ from office_kit.client import PATIENCE
 from office_kit.common import ROOT, connect
 from office_kit.store.served import server
 
-pytestmark = pytest.mark.budget(90)
 DOCUMENT = Document()
 # Refusals that a run of a few seconds can't cause: without memory, after days of validity, at 9,999 releases or 10^9 receipts.
 CANT = {*((name, "Expired") for name in ("award", "fail", "sign", "withdraw")),

@@ -64,7 +64,7 @@ def trial(program, tmp_path_factory):
     return Trial(program, tmp_path_factory.mktemp("tenders"))
 
 
-@pytest.fixture(scope="module", params=[500, pytest.param(5000, marks=[pytest.mark.long, pytest.mark.budget(600)])])
+@pytest.fixture(scope="module", params=[500, pytest.param(5000, marks=[pytest.mark.long])])
 def files(request):
     """All forms, the files at the bounds, and so many that are made."""
     return [*tenders.known(), *tenders.samples(tenders.FILES, request.param)]

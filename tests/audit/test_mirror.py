@@ -14,39 +14,41 @@ import subprocess
 import sys
 import time
 import zipfile
+from datetime import datetime
 from pathlib import Path
 from xml.etree import ElementTree
+from zoneinfo import ZoneInfo
 
 import pytest
 
 from office_kit import client
+from office_kit.client import wait_until
 from office_kit.common import ROOT, copy_into, need, planted, running
 from office_kit.desks.page_office import Procurements
 from office_kit.front.nginx import Front
 from office_kit.front.office import StandIn
 from office_kit.store.served import Serving
 
-pytestmark = pytest.mark.budget(240)
 PATIENCE = 60
 ATOM, MAP, LINK = "{http://www.w3.org/2005/Atom}", "{http://www.sitemaps.org/schemas/sitemap/0.9}", "{http://www.w3.org/1999/xhtml}link"
 READERS = "https://office.example"
 NAMES = [f"N{number}" for number in range(1, 7)]
 LANGUAGES = ("en", "de")
 PAGES = [f"{tag}/{name}.html" for tag in LANGUAGES for name in NAMES]
-TABLES = ("notices", "lots", "items", "tenders", "awards", "contracts", "payments", "budget")
+TABLES = ("notices", "lots", "items", "tenders", "awards", "contracts", "payments", "budget", "documents")
 LINES = ("releases.jsonl", "compiled.jsonl")
 # The changes that make a script wrong, and the test that must fail then.
 PLANTS = [
     ("office_kit/mirror/chain.py", "if now.get(number) != digest", "if False", "changed"),
     ("office_kit/mirror/chain.py", "now.get(number, GONE)) for", "now.get(number, digest)) for", "gone"),
-    ("tools/mirror", "gone = [name for name in chain.seen if name not in notices]", "gone = []", "unlisted"),
+    ("tools/mirror", "gone = [name for name in chain.seen if name not in rows]", "gone = []", "unlisted"),
     ("tools/mirror", "return moved | set(rest[:choice.again])", "return moved", "found_in_time"),
-    ("tools/mirror", "or known[name].is_moving()", "", "late_news"),
+    ("tools/mirror", " or kept.known.get(name, {}).get(\"moving\", True)", "", "late_news"),
     ("office_kit/mirror/chain.py", "if self.broken is None and (head", "if False and (head", "by_hand"),
     ("tools/mirror", "chain.head != kept.state.get(\"chain\", chain.head)", "False", "by_hand"),
-    ("tools/mirror", "if file.read() == data:", "if False:", "first_and_next"),
-    ("tools/mirror", "    put(f\"{folder}.new\", folder)\n", "", "first_and_next"),
-    ("tools/mirror", "**kept_files(kept, \"ledgers\"), ", "", "days"),
+    ("tools/mirror", "if changed or one.texts != before", "if True", "first_and_next"),
+    ("tools/mirror", "        put_in_place(new.new, kept.folder)\n", "", "first_and_next"),
+    ("tools/mirror", "keep_all(\"earlier\", \"ledgers\")", "keep_all(\"earlier\")", "days"),
     ("office_kit/mirror/chain.py", "return self._replace(where=", "return self._replace(seen=self.seen, where=None and ", "changed"),
     ("office_kit/mirror/events.py", "if now <= notice.row[\"deadline\"] else \"waiting\"", "", "waiting"),
     ("office_kit/mirror/notices.py", ".replace(\"<\", \"\\\\u003c\")", "", "pages"),
@@ -55,9 +57,14 @@ PLANTS = [
     ("office_kit/mirror/feeds.py", " or state_of(one, now) == \"open\"", "", "many"),
     ("office_kit/mirror/feeds.py", "for tag in LANGUAGES]\n    parts", "for tag in [\"en\"]]\n    parts", "pages"),
     ("office_kit/mirror/columns.py", "(WHOLE, \"All points in", "(TIME, \"All points in", "dictionary"),
-    ("office_kit/mirror/tables.py", "cell[:1] in (\"=\"", "cell[:1] in (\"!\"", "tables"),
+    ("office_kit/mirror/tables.py", "(r\"(^|[,;\\t|])('*)", "(r\"(^)('*)", "tables"),
     ("tools/mirror", "if os.path.isdir(folder) and os.listdir(folder) and not kept.state:", "if False:", "strange"),
-    ("tools/mirror", "if kept.state and kept.base != office.base:", "if False:", "strange"),
+    ("tools/mirror", "words != kept.state.get(\"words\")", "False", "pages"),
+    ("tools/mirror", "last <= row[\"deadline\"] <= moment", "False", "waiting"),
+    ("tools/mirror", " or not is_whole(kept)", "", "first_and_next"),
+    ("tools/mirror", "            for file, size in zip(files.values(), sizes):\n                file.copy(size)\n", "", "first_and_next"),
+    ("office_kit/mirror/notices.py", "return \"won\" if", "return \"passed\" if", "pages"),
+    ("tools/mirror", "if kept.state and kept.state.get(\"base\") != office.base:", "if False:", "strange"),
 ]
 
 
@@ -176,30 +183,50 @@ def copy(days, tmp_path):
 def test_first_and_next(copy):
     assert "6 notices, 6 asked for" in copy.run(0)
     files = copy.files()
-    wanted = {f"{name}{end}" for name in [*(f"{it}.csv" for it in TABLES), *LINES] for end in ("", ".gz")} | {today(), *PAGES}
-    wanted |= {"index.html", "chain.txt", "mirror.json", "ledger.txt", "datapackage.json", "sitemap.xml", "robots.txt", "notices.css"}
+    wanted = {f"{name}{end}" for name in [*(f"{tag}{it}.csv" for it in TABLES for tag in ("", "de/")), *LINES] for end in ("", ".gz")} | {today(), *PAGES}
+    wanted |= {"deadlines.ics", *(f"calendars/line-{line}.ics" for line in (1100, 1200, 1500, 1800))}
+    wanted |= {"index.html", time.strftime("notices-%Y.html", time.gmtime()), "chain.txt", "mirror.json", "kept.json", "list.json"}
+    wanted |= {"ledger.txt", "datapackage.json", "sitemap.xml", "robots.txt", "notices.css"}
     wanted |= {f"{it}/{name}.json" for it in ("records", "terms") for name in NAMES}
     wanted |= {f"{folder}{it}.atom" for folder in ("", "en/", "de/") for it in ("notices", "feed")}
     assert set(files) == wanted
-    assert [copy.text("index.html").count(state) for state in ("Deadline passed, not opened yet", "Open for tenders", 'href="evaluations/N')] == [4, 1, 0]
+    told = ("Deadline passed, tenders not opened yet", "Open for tenders", 'href="evaluations/N')
+    assert [copy.text("index.html").count(state) for state in told] == [4, 1, 0]
     copy.run(0, "--again", "1")
     assert len(copy.asked_notices()) == 1, "of those that didn't move"
-    assert {name for name, _ in files.items() ^ copy.files().items()} <= {"mirror.json", "index.html"}
+    assert {name for name, _ in files.items() ^ copy.files().items()} <= {"mirror.json", "kept.json"}
     copy.run_later("--again", "0")
     assert copy.asked_notices() == {"N1", "N2", "N5", "N6"}, "those that moved"
     now = copy.files()
     assert all(now[f"records/{it}.json"] == files[f"records/{it}.json"] for it in ("N3", "N4")), "those that didn't"
+    assert all(now[f"de/{it}.html"] == files[f"de/{it}.html"] for it in ("N3", "N4")) and now["en/N1.html"] != files["en/N1.html"]
     assert copy.text("records/N1.json").encode() == copy.office.days[1]["/notices/N1/record"][1]
+    copy.run(0, "--all")
+    assert {name for name, _ in now.items() ^ copy.files().items()} <= {"mirror.json", "kept.json", "index.html"}, "as if all were made again"
+    (copy.folder / "payments.csv").write_text("spoilt")
+    copy.run(0)
+    assert copy.files()["payments.csv"][0] != now["payments.csv"][0] and len(copy.rows("payments")) == 3
     assert sorted(os.listdir(copy.room)) == ["data", "data.lock"]
 
 
 def test_tables(copy):
     copy.lie("/lines/1100", lambda line: line.update(title="=1+1"))
+    copy.lie("/lines/1200", lambda line: line.update(title=ARMED))
     copy.run_later()
     rows = {name: copy.rows(name) for name in TABLES}
     counts = {name: len(it) for name, it in rows.items()}
-    assert counts == {"notices": 6, "lots": 10, "items": 11, "tenders": 13, "awards": 5, "contracts": 2, "payments": 3, "budget": 22}
+    assert counts == {"notices": 6, "lots": 10, "items": 11, "tenders": 13, "awards": 5, "contracts": 2, "payments": 3, "budget": 22, "documents": 0}
     assert rows["budget"][0]["title"] == "'=1+1", "a formula has an apostrophe"
+    for path in copy.folder.glob("**/budget.csv"):
+        for separator in ",;\t|":
+            cells = [cell for row in csv.reader(path.read_text(encoding="utf-8-sig").splitlines(True), delimiter=separator) for cell in row]
+            assert not [it for it in cells if it[:1] in tuple("=+-@")], (path, separator)
+    german = [row for row in csv.reader(copy.text("de/lots.csv").removeprefix("\ufeff").splitlines(True), delimiter=";")]
+    assert len(german) == 11 and german[1][:2] == ["N1", "L1"] and copy.text("de/notices.csv").startswith("\ufeffnotice;title;")
+    assert re.search(r";[0-9]{2}\.[0-9]{2}\.[0-9]{4} [0-9:]{8};", copy.text("de/notices.csv")), "days as a German sheet reads them"
+    asked = set(copy.office.asked)
+    assert copy.run(0, "--again", "0") and not {it for it in copy.office.asked if it.startswith("/lines/")}, "titles of lines that didn't change"
+    assert len({it for it in asked if it.startswith("/lines/")}) == 22
     bought = [(it["lot"], it["item"], it["title"], it["quantity"]) for it in rows["items"] if it["notice"] == "N1"]
     assert bought == [("L1", "I1", "Paving, square metres", "3000"), ("L1", "I2", "Kerbs", "250"), ("L2", "I1", "Signs", "120")]
     for line in rows["budget"]:
@@ -213,6 +240,10 @@ def test_tables(copy):
         assert gzip.decompress(path.read_bytes()) == copy.text(path.stem).encode(), path
     compiled = [json.loads(line)["ocid"] for line in copy.text("compiled.jsonl").splitlines()]
     assert len(compiled) == 6 and sorted(compiled) == compiled
+
+
+# A text that sheets read as a formula if they part lines at semicolons, tabs, commas or strokes.
+ARMED = "a;=1+cmd|' /C calc'!A0;+b\u0020|@c,-d"
 
 
 class Page:
@@ -246,7 +277,8 @@ def is_page(copy, name):
 
 
 def test_pages(copy):
-    copy.run_later("--base", READERS)
+    copy.run_later()
+    copy.run(0, "--base", READERS)
     assert sorted(copy.places("sitemap.xml")) == sorted(f"{READERS}/data/{page}" for page in PAGES)
     listed = ElementTree.fromstring(copy.text("sitemap.xml"))
     assert all({it.get("hreflang") for it in one.iter(LINK)} == set(LANGUAGES) for one in listed), "each address has its languages"
@@ -261,7 +293,12 @@ def test_pages(copy):
     assert "@media print" in copy.text("notices.css")
     german = Page(copy.text("de/N1.html")).text("ol")
     assert "Vertrag 1: Erhöht um 12.000 EUR, auf 482.000 EUR. Grund: „Kerbs at the <b>bus stop</b>“" in german
+    assert "Beta Paving Ltd" in (won := Page(copy.text("en/N1.html")).text("tbody")) and "Won" in won and "Not chosen" in won, "who won"
     assert "Abgelaufen" not in german and "Open for tenders" in Page(copy.text("en/N3.html")).text("dl"), "a state by the time"
+    assert "<dd><bdi>1100 Roads and bridges</bdi></dd>" in copy.text("en/N1.html")
+    copy.lie("/lines/1100", lambda line: line.update(title="Bridges"))
+    copy.run(0, "--base", READERS, "--again", "99")
+    assert "<dd><bdi>1100 Bridges</bdi></dd>" in copy.text("en/N1.html"), "a title that changed"
 
 
 def entries(copy, name):
@@ -284,9 +321,16 @@ def test_waiting(copy):
     """A notice whose deadline has passed doesn't take tenders any more, on its page and in its feed."""
     copy.run(0)
     for name in ("N1", "N2"):
-        assert "Deadline passed, not opened yet" in Page(copy.text(f"en/{name}.html")).text("dl")
+        assert "Deadline passed, tenders not opened yet" in Page(copy.text(f"en/{name}.html")).text("dl")
     said = [it.findtext(f"{ATOM}summary") for it in entries(copy, "en/notices.atom")]
-    passed = [it for it in said if it.startswith("Deadline passed, not opened yet.")]
+    passed = [it for it in said if it.startswith("Deadline passed, tenders not opened yet.")]
+    # The deadline came since the run before, and nothing else.
+    kept = copy.value("mirror.json")
+    (copy.folder / "mirror.json").write_text(json.dumps({**kept, "moment": "2000-01-01T00:00:00Z"}))
+    for name in ("N1", "N3"):
+        (copy.folder / "en" / f"{name}.html").write_text("before")
+    copy.run(0)
+    assert [copy.text(f"en/{name}.html") == "before" for name in ("N1", "N3")] == [False, True]
     assert len(passed) == 4 and not any("takes tenders" in it for it in passed), said
 
 
@@ -298,13 +342,13 @@ def test_feeds(copy):
     said = {it.findtext(f"{ATOM}title"): it.findtext(f"{ATOM}summary") for it in entries(copy, "notices.atom")}
     deadline = copy.value("terms/N3.json")["deadline"]
     clock, day = deadline[11:19], int(deadline[8:10])
-    wanted = rf"Open for tenders\. 2 lots, estimated at 2,480,000 EUR\. The office takes tenders until {day} \w+ \d+, {clock} UTC\."
+    wanted = rf"Open for tenders\. 2 lots, estimated at 2,480,000 EUR\. The register takes tenders until {day} \w+ \d+ at {clock} UTC\."
     assert re.fullmatch(wanted, said["A footbridge over the river (N3)"])
     shown = " ".join(word for path in Path(ROOT, "tests", "page_texts").glob("*.txt") for word in path.read_text(encoding="utf-8").split())
     happened = [it.findtext(f"{ATOM}summary") for it in entries(copy, "en/feed.atom")]
     for it in happened:
-        assert " ".join(re.sub(r"[0-9]+ \w+ [0-9]{4}, [0-9:]{8} UTC", "MOMENT", it).split()) in shown, "the portal says it"
-    wanted = ["The office opened and read the sealed tenders of 2 tenderers.", "Lot L1 (Desks for two schools) went to Beta Paving Ltd for 82,000 EUR.",
+        assert " ".join(re.sub(r"[0-9]+ \w+ [0-9]{4} at [0-9:]{8} UTC", "MOMENT", it).split()) in shown, "the portal says it"
+    wanted = ["The register opened and read the sealed tenders of 2 tenderers.", "Lot L1 (Desks for two schools) went to Beta Paving Ltd for 82,000 EUR.",
               "Contract 1 ended: 450,000 EUR of 480,000 EUR was paid. Unpaid money is free again."]
     assert all(it in happened for it in wanted) and all(happened), happened
 
@@ -314,11 +358,11 @@ OF_MANY = """
 import sys
 from pathlib import Path
 from office_kit.mirror import feeds
-from office_kit.mirror.office import Kept, now
+from office_kit.mirror.office import Kept, Notice, now, texts_in
 kept = Kept(sys.argv[1])
 feeds.NEWEST, feeds.MOST = 1, 5
-notices = [kept.notice(name) for name in sorted(kept.names())]
-for name, text in {**feeds.feeds(sys.argv[2], notices, now()), **feeds.sitemaps(sys.argv[2], notices)}.items():
+notices = [Notice(row, "", texts_in(sys.argv[1], name)) for name, row in sorted(kept.rows.items())]
+for name, text in {**feeds.feeds(sys.argv[2], notices, now()), **feeds.sitemaps(sys.argv[2], kept.known)}.items():
     Path(sys.argv[1], name).write_bytes(text.encode())
 """
 
@@ -369,7 +413,9 @@ def test_dictionary(copy):
     assert listed == [[f"{it}.csv" for it in TABLES], [*LINES, "datapackage.json", "ledger.txt", "chain.txt"]]
     city = copy.room / "city.json"
     city.write_text(LICENCE)
-    copy.run_later("--city", city)
+    (copy.room / "documents" / "N1").mkdir(parents=True)
+    (copy.room / "documents" / "N1" / "plan.pdf").write_bytes(b"one")
+    copy.run_later("--city", city, "--documents", copy.room / "documents")
     assert "licenses" in copy.value("datapackage.json")
     city.write_text(LICENCE + ",")
     assert f"{city} is no JSON object" in copy.run(0, "--city", city) and "licenses" not in copy.value("datapackage.json")
@@ -383,6 +429,21 @@ def test_dictionary(copy):
         is_described(copy, name, schemas[name])
 
 
+@pytest.mark.parametrize("zone, used", [("", "UTC"), ("Pacific/Auckland", "Pacific/Auckland"), ("Nowhere/X", "UTC")])
+def test_zone(copy, zone, used):
+    """Pages and feeds have the days and hours of the city's time zone: deadlines to the second, and what is past by its day. The title has the whole moment."""
+    city = copy.room / "city.json"
+    city.write_text(json.dumps({"zone": zone}))
+    assert ("there is no time zone" in copy.run_later("--city", city)) == (zone not in ("", used))
+    (row,) = [it for it in copy.value("list.json")["notices"] if it["notice"] == "N3"]
+    for name in ("deadline", "published"):
+        at = datetime.fromisoformat(row[name]).astimezone(ZoneInfo(used))
+        day, whole = f"{at.day} {at:%B %Y}", f"{at.day} {at:%B %Y} at {at:%H:%M:%S %Z}"
+        wanted = f'<time datetime="{row[name]}" title="{whole}">{whole if name == "deadline" else day}</time>'
+        assert f"<dd>{wanted}</dd>" in copy.text("en/N3.html"), wanted
+    assert f"</b>, {wanted}: 2 lots, estimated at" in copy.text("en/N3.html").replace("<bdi>", "")
+
+
 def test_days(copy):
     """The ledger of each day stays, also when a later run has another one."""
     copy.run(0)
@@ -393,26 +454,102 @@ def test_days(copy):
     assert copy.text("ledgers/2026-01-01.txt") == before != copy.text("ledger.txt") == copy.text(today())
 
 
+def test_calendars(copy):
+    copy.run(0)
+    assert copy.text("deadlines.ics").count("SUMMARY:Deadline for tenders: ") == 5
+    copy.run_later("--base", READERS)
+    for path in copy.folder.glob("**/*.ics"):
+        text = path.read_bytes().decode()
+        assert text.startswith("BEGIN:VCALENDAR\r\nVERSION:2.0\r\n") and text.count("BEGIN:VEVENT") == text.count("END:VEVENT")
+        assert all(len(line.encode()) <= 75 and "\n" not in line for line in text.split("\r\n"))
+    text = copy.text("deadlines.ics").replace("\r\n ", "")
+    told = {(what, name) for what, name in re.findall(r"SUMMARY:([^:]+): .*\((N[0-9])\)", text)}
+    terms = {name: copy.value(f"terms/{name}.json") for name in NAMES}
+    states = {name: {lot["state"] for lot in it["lots"]} for name, it in terms.items()}
+    assert told == {*(("Deadline for tenders", name) for name, it in terms.items() if it["state"] == "receiving"),
+                    *(("Tenders are valid until here", name) for name, it in terms.items()
+                      if it["state"] == "opened" and states[name] & {"undecided", "awarded"}),
+                    *(("End of the standstill", name) for name, it in terms.items() if "awarded" in states[name] and it["standstill_days"])}
+    firms = {row["tenderer"] for row in copy.rows("tenders") if ("Tenders are valid until here", row["notice"]) in told}
+    assert {path.stem for path in copy.folder.glob("calendars/firm-*")} == {f"firm-{it}" for it in firms} != set()
+
+
+def test_documents(copy):
+    """Each version of a document beside a notice is listed and kept, and `tools/audit` compares the list with the folder."""
+    (folder := copy.room / "documents" / "N1").mkdir(parents=True)
+    plan, words = folder / "plan.PDF", ("--documents", folder.parent)
+
+    def audited(*told):
+        """The rows that the audit finds."""
+        audit = [sys.executable, os.path.join(ROOT, "tools", "audit"), "--base", copy.office.address, "--earlier", copy.folder, *words]
+        ran = subprocess.run(audit, capture_output=True, text=True)
+        assert set(re.findall("^(\\w+) documents (\\S+): ", ran.stdout, re.M)) == set(told) and ran.returncode == bool(told), ran.stdout + ran.stderr
+    plan.write_bytes(b"one")
+    (folder / "a plan.pdf").write_bytes(b"no name for an address")
+    assert "a plan.pdf isn't shown" in copy.run(0, *words)
+    (folder / "a plan.pdf").unlink()
+    plan.write_bytes(b"two")
+    copy.run(0, *words)
+    versions = [(it["notice"], it["file"], it["length"], bool(it["until"])) for it in copy.rows("documents")]
+    assert versions == [("N1", "plan.PDF", "3", old) for old in (True, False)]
+    kept = {path.read_bytes(): path for path in (copy.folder / "documents").glob("*.pdf")}
+    assert set(kept) == {b"one", b"two"} and kept[b"one"].stem == hashlib.sha256(b"one").hexdigest()
+    before = copy.files()
+    copy.run(0, *words)
+    assert {name for name, _ in before.items() ^ copy.files().items()} <= {"mirror.json", "kept.json"}
+    audited()
+    plan.write_bytes(b"six")
+    audited(("documents_are_listed", "N1/plan.PDF"))
+    plan.unlink()
+    kept[b"one"].write_bytes(b"1")
+    copy.run(0, *words)
+    assert all(it["until"] for it in copy.rows("documents")) and kept[b"two"].exists()
+    audited(("documents_are_listed", "N1/plan.PDF"))
+
+
 # The type of each kind of file, as the front answers it. `no-cache` lets a client keep it and ask whether it changed.
 SERVED = {"/data/": "text/html", "/data/en/N1.html": "text/html", "/data/de/N1.html": "text/html", "/data/en/notices.atom": "application/atom+xml",
           "/data/feed.atom": "application/atom+xml", "/data/notices.css": "text/css", "/data/sitemap.xml": "application/xml", "/robots.txt": "text/plain",
-          "/data/datapackage.json": "application/json", "/data/items.csv": "text/csv"}
+          "/data/datapackage.json": "application/json", "/data/items.csv": "text/csv", "/data/deadlines.ics": "text/calendar",
+          "/data/calendars/line-1100.ics": "text/calendar", "/documents/N1/plan.pdf": "application/pdf", "/documents/N1/page.html": "application/octet-stream"}
+SUBSCRIBING = ("# include /usr/share/procure/nginx/notify.conf;", 1, "include /usr/share/procure/nginx/notify.conf;")
 
 
 @pytest.mark.nginx
 @pytest.mark.needs("nginx", "openssl")
 def test_at_the_front(copy, tmp_path):
-    """The front of deploy/nginx.conf serves each kind of file with its type, and no other folder."""
+    """The front of deploy/nginx/ serves each kind of file with its type, and no other folder."""
     copy.run(0)
     (tmp_path / "front" / "mirror").mkdir(parents=True)
     (tmp_path / "front" / "mirror" / "data").symlink_to(copy.folder)
-    with Front(str(tmp_path / "front"), copy.office.port) as front:
+    (documents := tmp_path / "front" / "documents" / "N1").mkdir(parents=True)
+    for name in ("plan.pdf", "page.html", ".hidden"):
+        (documents / name).write_text("one")
+    (documents / "link.pdf").symlink_to(documents / "plan.pdf")
+    with Front(str(tmp_path / "front"), copy.office.port, [SUBSCRIBING]) as front:
         for path, kind in [*SERVED.items(), (f"/data/{today()}", "text/plain")]:
             answer = front.ask("GET", path)
             told = (answer.status, (answer.head["Content-Type"] or "").split(";")[0], answer.head["Cache-Control"])
             assert told == (200, kind, "no-cache"), path
-        for path in ("/data/fr/N1.html", "/data/en/N7.html", "/data/en/", "/data/ledgers/"):
+        for path in ("/data/fr/N1.html", "/data/en/N7.html", "/data/en/", "/data/ledgers/", "/documents/N1/", "/documents/N1/.hidden", "/documents/N2/x.pdf"):
             assert front.ask("GET", path).status == 404, path
+        assert front.ask("GET", "/documents/N1/link.pdf").status in (403, 404)
+        subscribes(front)
+
+
+def subscribes(front):
+    """The pages at which people subscribe: what they ask is noted for deploy/notify, and no page has a text that came with the request."""
+    secret = "0123456789abcdef" * 2
+    for path, told in (("/notify/", '<form action="/notify/ask"'), ("/notify/ask?address=a%40b.example&words=%22x%22", "Look into your mail"),
+                       (f"/notify/yes?{secret}", f'name="yes" value="{secret}"'), (f"/notify/no?{secret}", f'name="no" value="{secret}"'),
+                       (f"/notify/done?no={secret}", "<h1>Done</h1>"), ('/notify/yes?"><script>', "isn't whole"), ("/notify/yes", "isn't whole")):
+        answer = front.ask("GET", path.replace('"', "%22").replace("<", "%3C").replace(">", "%3E"))
+        assert answer.status == 200 and told in answer.body.decode() and "script" not in answer.body.decode(), path
+        assert answer.head["Cache-Control"] == "no-store" and "form-action 'self'" in answer.head["Content-Security-Policy"]
+    assert front.ask("POST", "/notify/ask").status == 405 and front.ask("GET", "/notify/other").status == 404
+    noted = [json.loads(line) for line in front.logged("notify.log").splitlines()]
+    assert noted == [{"path": "/notify/ask", "args": "address=a%40b.example&words=%22x%22"}, {"path": "/notify/done", "args": f"no={secret}"}]
+    assert "b.example" not in front.logged("access.log")
 
 
 def test_libreoffice(copy):
@@ -486,7 +623,7 @@ def test_found_in_time(copy):
     ends = []
     for _ in range(3):
         # (the moment of a notice is kept in seconds, and a run may take less)
-        time.sleep(1.01)
+        wait_until(int(time.time()) + 1)
         ends.append(subprocess.run(copy.words("--again", "2"), capture_output=True).returncode)
     assert 1 in ends
 

@@ -78,6 +78,7 @@ export async function answersTo({ files = [], drafts = [], notices = [], awards 
       await addEntry(journal, { moment: "2026-01-05T09:00:00Z", who: "Anna", title: "x", method: "POST", path: "/budget/B1", body: new TextEncoder().encode(text),
         answer: { status: 200, text: "{}" }, found: null });
     }
+    journal.letters = { "N1/L1/1": "Too dear" };
     const text = await fileOf(journal), lines = text.trimEnd().split("\n");
     const isFound = async (changed) => Boolean((await readFile(changed)).fault);
     const digit = (line) => line.replace(/\d(?=\D*$)/, (it) => (Number(it) + 1) % 10);
@@ -85,7 +86,7 @@ export async function answersTo({ files = [], drafts = [], notices = [], awards 
       lines.toSpliced(at, 1, ...others)).filter((way) => way.join() !== lines.join()));
     const found = await Promise.all(ways.map((way) => isFound(`${way.join("\n")}\n`)));
     const back = await readFile(text);
-    return { ways: ways.length, missed: found.filter((it) => !it).length, isSame: JSON.stringify(back.journal?.entries) === JSON.stringify(journal.entries) };
+    return { ways: ways.length, missed: found.filter((it) => !it).length, isSame: JSON.stringify([back.journal?.entries, back.journal?.letters]) === JSON.stringify([journal.entries, journal.letters]) };
   })();
   await addTexts({ en: () => ({ default: en }), de: () => ({ default: de }) });
   const marks = (text) => [text].flat().map((one) => [...one.matchAll(/\{(\w+)\}/g)].map((it) => it[1]).sort().join()).join("|");

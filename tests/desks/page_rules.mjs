@@ -58,6 +58,15 @@ export function convertedFrom(file) {
   return found && [new TextDecoder().decode(found.bytes), found.lines, found.changes.map(({ line, name, told }) => [line, name, told])];
 }
 
+/** The moment that a field means in a zone, and the field's content for that moment. */
+export function inZone(name, text) {
+  useZone(name);
+  const found = localMilliseconds(text);
+  const told = [momentText(found), localText(found)];
+  useZone("");
+  return told;
+}
+
 /** The warnings about a draft with these parts and this deadline. */
 export function warningsAbout(parts, text, now) {
   const found = warningsOf({ ...newDraft(), ...parts, deadline: text && localMilliseconds(text), typed: text }, now);

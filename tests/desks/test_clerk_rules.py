@@ -22,7 +22,7 @@ from office_kit.desks import modules
 from office_kit.desks.modules import WEB
 from office_kit.desks.page_checks import refusals
 
-pytestmark = [pytest.mark.needs("node"), pytest.mark.budget(120)]
+pytestmark = pytest.mark.needs("node")
 NOW, DEADLINE, NOW_MS = "2026-01-05T09:00:00Z", "2026-02-01T12:00:00Z", 1_767_603_600_000
 MOST_BODY = 65_536
 LATER, PAST = 1_767_700_000_000, 1_767_600_000_000
@@ -259,7 +259,7 @@ class Given:
 
 # ---- The tests. Each but the last compares the answers of the modules with the program's.
 
-@pytest.fixture(scope="module", params=[300, pytest.param(1000, marks=[pytest.mark.long, pytest.mark.budget(600)])])
+@pytest.fixture(scope="module", params=[300, pytest.param(1000, marks=[pytest.mark.long])])
 def given_all(program, request):
     return Given(program, request.param)
 

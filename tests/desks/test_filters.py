@@ -157,7 +157,9 @@ def made(chance):
 
 # ---- Examples.
 
-QUESTIONS = [(it["listed"], it.get("tables"), *question) for it in DATA["lists"] for question in it["questions"].items()]
+FIELDS = ("notice", "published", "deadline", "state", "title")
+LISTS = {name: [{**dict(zip(FIELDS, row)), "releases": 1} for row in rows] for name, rows in DATA["lists"].items()}
+QUESTIONS = [(LISTS[name.split("_")[0]], DATA["tables"] if "_" in name else None, *it) for name, found in DATA["questions"].items() for it in found]
 
 
 @pytest.fixture(scope="module")
@@ -174,7 +176,7 @@ def test_example(node, listed, data, address, found):
 
 def test_texts_of_questions(node):
     assert node.ask("written", "words=a+b&state=open&x=1") == "words=a+b&state=open"
-    assert [node.ask("noticeOf", DATA["lists"][0]["listed"], text) for text in ("n1", "N2", "n2", " N4 ", "N9", "")] == ["N1", "N2", "n2", "N4", None, None]
+    assert [node.ask("noticeOf", LISTS["first"], text) for text in ("n1", "N2", "n2", " N4 ", "N9", "")] == ["N1", "N2", "n2", "N4", None, None]
 
 
 # ---- Lists that are made.

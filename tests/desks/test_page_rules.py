@@ -3,6 +3,7 @@
 Each check is a function, whose comment says what it is about. In page_rules.toml are evaluations, budget files, and rules that are made wrong, one at a time:
 then the check must fail.
 """
+import csv
 import gzip
 import os
 import random
@@ -11,13 +12,16 @@ from pathlib import Path
 
 import pytest
 
+from office_kit.common import ROOT
 from office_kit.desks import modules
-from office_kit.mirror.tables import table
+from office_kit.docs.help_pages import pages, sections_of
+from office_kit.mirror.tables import guarded, table
 
 pytestmark = pytest.mark.needs("node")
-NAMES = "common/findings common/data common/money common/texts tender/search tender/session clerk/budget clerk/convert clerk/notice clerk/values clerk/stage"
+NAMES = ("common/findings common/csv common/data common/days common/money common/texts common/zone figures tender/search tender/session clerk/budget "
+         "clerk/convert clerk/notice clerk/values clerk/stage")
 # The most bytes that each page may load at once; the most bytes of all modules with the texts of one language, by gzip; the most lines of a module.
-MOST_BYTES, MOST_ZIPPED, MOST_LINES = {"page.js": 140_000, "tender/main.js": 145_000, "clerk/desk.js": 172_000}, 182_000, 300
+MOST_BYTES, MOST_ZIPPED, MOST_LINES = {"page.js": 147_000, "tender/main.js": 150_000, "clerk/desk.js": 195_000}, 206_000, 300
 NOW, PAST, NEAR, LATER = 1_800_000_000_000, "2026-03-01T00:00:00Z", "2027-02-01T00:00:00Z", "2027-03-01T00:00:00Z"
 HEAD = "EVALUATION\tN1\n"
 DATA = modules.data_of("page_rules")
@@ -36,16 +40,21 @@ BOOKS, LANGUAGES = ("common", ".", "tender", "clerk"), ("en", "de")
 KINDS = {"tender": ("fault.", "change.", "help.", "withdraw.help.", "receipt.", "check."), "clerk": (), ".": (), "common": ()}
 # Words that no text may have, by language and page: those for which all pages have another word, and those that a reader must read twice.
 OTHER_WORDS = [("de", BOOKS, r"Reiter|Posten|Rücknahme|Vertragsbruch|Einheitspreis|Anforderung|[Dd]er SHA-256|Prüfsumme|[Dd]er Kopf\b|Öffentlichkeit sieht"),
-               ("de", ("common", "."), "[Uu]nterschr"), ("en", BOOKS, r"\bblanks\b|digest|regularly|security (of the tender )?is lost"),
+               ("de", ("common", "."), "[Uu]nterschr"), ("en", BOOKS, r"(?<!your )(?<!\{)\b[Oo]ffice\b(?! hours|-)|digest|regularly"),
                ("de", BOOKS, r"Haushaltstitel|\bTitel[ns]?\b|\bT(o|ö)pfe?n?\b|(?<!\()Stillhalte|\bgesichert\b|\bsichern\b"),
+               ("en", BOOKS, r"\bblanks\b|security (of the tender )?is lost"),
                ("en", BOOKS, r"\bbehind\b|\bstands?\b|\bwants\b|(?<!\{)\btold\b|\banew\b|\black(s|ing)?\b|\bhand(s|ed)? in\b|\b(an|the|this|your) offer\b|"
                 r"\bgiven? back\b|\bresponsive\b|\btaken? (it |the file )?in\b")]
 MOST_WORDS = 30
+# By the state of a procurement in lists, its states on its own page.
+STATE_NAMES = {"open": ["open"], "waiting": ["waiting"], "opened": ["opened", "decided"], "awarded": ["awarded"], "running": ["unpaid", "part", "paid"],
+               "complete": ["complete"], "cancelled": ["cancelled"], "unsuccessful": ["unsuccessful"]}
 
 
 def books_of(node):
-    """The texts of each page, by language."""
-    script = "async (book, tag) => (await import(`${web}/${book}/${tag}.js`)).default"
+    """The texts of each page, by language. (Those of pictures are a file of their own, loaded with them.)"""
+    read = "(await import(`${web}/${book}/${tag}%s.js`)).default"
+    script = f"async (book, tag) => ({{ ...{read % ''}, ...(book === 'common' && {read % '_pictures'}) }})"
     return {book: {tag: node.ask(script, book, tag) for tag in LANGUAGES} for book in BOOKS}
 
 
@@ -80,6 +89,10 @@ def texts(node):
         named = {name for it in asking for name in re.findall(r'"([a-z]+(?:\.[a-zA-Z_]+)*)"', sources[it])}
         parts = tuple(part for it in asking for part in (*re.findall(r"`([a-z.]+\.)\$\{", sources[it]), *KINDS[it]))
         assert [name for name in english if name not in named and not name.startswith(parts)] == [], f"{book}: never asked for"
+    # A state has one name: that of a procurement's page begins with that of the lists.
+    for tag, found in books["common"].items():
+        for name, names in STATE_NAMES.items():
+            assert [it for it in names if not found[f"see.is.{it}"].startswith(found[f"see.state.{name}"])] == [], (tag, name)
     for tag, where, pattern in OTHER_WORDS:
         assert [name for book in where for name, text in books[book][tag].items() if re.search(pattern, str(text))] == [], pattern
     for name in ("order.award.title", "order.sign.title", "order.fail.title"):
@@ -103,6 +116,25 @@ def lines(node):
         assert text_lines(english) == text_lines(english.with_name(re.sub("^en", "de", english.name)))
     said = [one for book in books_of(node).values() for found in book.values() for text in found.values() for one in sides(text)]
     assert [it for one in said for it in re.split(r"(?<=[.?!]) ", one) if len(it.split()) > MOST_WORDS] == []
+
+
+# For each document of the help: the modules that lead to its sections, and what begins the names of screens there.
+HELPS = {"CLERK": (("clerk/desk.js", r"(\w+): \[\(\) => import"), ("clerk/procurement.js", None)), "TENDERER": (("tender/main.js", r"(\w+): (?:draw|own\()"),)}
+
+
+def helps(node):
+    """Each screen of a desk leads to a section of the help, and there is such a section. No link within the help leads nowhere."""
+    for document, paths in HELPS.items():
+        sections = sections_of(Path(ROOT, "docs", f"{document}.md").read_text(encoding="utf-8"))
+        for path, begins in paths:
+            text = Path(node.web, path).read_text(encoding="utf-8")
+            found = dict(re.findall(r'(\w+): "([a-z-]+)"', re.search(r"const HELP = \{(.*?)\};", text, re.S)[1]))
+            assert found and set(found.values()) <= set(sections), path
+            assert not begins or set(re.findall(begins, text)) <= found.keys(), path
+    made = {f"/{path}": data.decode("utf-8", "replace") for path, data in pages()}
+    for path, target in ((path, it) for path, text in made.items() for it in re.findall(r'(?:href|src)="(/help/[^"]*|#[^"]*)"', text)):
+        page, _, anchor = target.partition("#")
+        assert (page or path) in made and (not anchor or f'id="{anchor}"' in made[page or path]), (path, target)
 
 
 # ---- Procurements, lots and tenders.
@@ -148,9 +180,11 @@ def outcomes(node):
     """The pages show the outcome of each tender of a lot and of its security, from the rows of the evaluation, also while some are hidden."""
     tenders = [{"receipt": at, "reading": "priced", "corrected": price} for at, price in ((1, 100), (2, 90), (3, 100))]
     tenders.append({"receipt": 4, "reading": "unreadable"})
-    for it in DATA["outcomes"]:
-        told = node.ask("outcomesOf", tenders, f"{HEAD}{it['evaluation']}END\n", *it["given"])
-        assert [" ".join(words) for words in told] == it["wanted"], it["evaluation"]
+    for state, found, award, given, wanted in DATA["outcomes"]:
+        rows = [f"tender {at} {who} priced {price} {it}" for at, who, price, it in zip((1, 2, 3), "ABC", (100, 90, 100), found)]
+        rows = [f"lot L1 {state}", *rows, *(["tender 4 D unreadable"] if rows else []), *filter(None, [award]), "END\n"]
+        told = node.ask("outcomesOf", tenders, HEAD + "\n".join(rows).replace(" ", "\t"), *given)
+        assert [" ".join(words) for words in told] == wanted, rows
 
 
 def evaluation(chance):
@@ -192,8 +226,11 @@ def plans(node):
 
 
 def tables(node):
-    """A table that office_kit/mirror/tables.py writes is read back unchanged, with formulas, quotation marks and line ends."""
-    rows = [{"line": "1000", "title": text, "free": at} for at, text in enumerate(['=1+1', '+a', "-5", "@x", 'a "b", c', "two\nlines", "'quoted", "Straße"])]
+    """A table that office_kit/mirror/tables.py writes is read back unchanged, with formulas, quotation marks and line ends. The pages guard as it does."""
+    texts = ["=1+1", "+a", "-5", "@x", 'a "b", c', "two\nlines", "'quoted", "Straße", "a;=1|@b,-c", "''=x", "a;'+b"]
+    rows = [{"line": "1000", "title": text, "free": at} for at, text in enumerate(texts)]
+    own = list(csv.reader(node.ask("tableOf", ["title", "free"], [[row["title"], row["free"]] for row in rows]).removeprefix("\ufeff").splitlines(True)))
+    assert own == [["title", "free"], *([guarded(row["title"]), str(row["free"])] for row in rows)]
     back = node.ask("rowsOf", table("budget", rows))
     assert [(it["title"], it["free"]) for it in back] == [(it["title"], it["free"]) for it in rows] and back[0]["paid"] is None
 
@@ -210,17 +247,17 @@ STAGES = [
     ("receiving", ["undecided"], None, -1, ["tenders", ["wait", DEADLINE]], "week week week"),
     ("receiving", ["undecided"], None, 0, ["opening", ["open", DEADLINE]], "overdue waiting waiting"),
     ("cancelled", ["cancelled"], None, 5, [None], "waiting waiting waiting"),
-    ("opened", ["undecided"], WAITING, DAY, ["examination", ["binds", BINDS], ["examine", "L1", 1]], "week waiting waiting"),
-    ("opened", ["undecided", "awarded"], FOUND, DAY, ["award", ["standstill", "L2", STILL], ["binds", BINDS], ["award", "L1"]], "week waiting waiting"),
+    ("opened", ["undecided"], WAITING, DAY, ["examination", ["examine", "L1", 1], ["binds", BINDS]], "week waiting waiting"),
+    ("opened", ["undecided", "awarded"], FOUND, DAY, ["award", ["award", "L1"], ["standstill", "L2", STILL], ["binds", BINDS]], "week waiting waiting"),
     ("opened", ["awarded"], FOUND, 10 * DAY - 1, ["signing", ["standstill", "L1", STILL], ["binds", BINDS]], "week week week"),
     ("opened", ["awarded"], FOUND, 10 * DAY, ["signing", ["sign", "L1", STILL], ["binds", BINDS]], "overdue waiting overdue"),
     ("opened", ["awarded"], FOUND, 90 * DAY, ["signing", ["expired", BINDS], ["sign", "L1", STILL]], "overdue overdue overdue"),
-    ("opened", ["undecided"], FOUND, 90 * DAY - 1, ["award", ["binds", BINDS], ["award", "L1"]], "week week week"),
+    ("opened", ["undecided"], FOUND, 90 * DAY - 1, ["award", ["award", "L1"], ["binds", BINDS]], "week week week"),
     ("opened", ["undecided"], FOUND, 90 * DAY, ["award", ["expired", BINDS], ["award", "L1"]], "overdue overdue overdue"),
     ("opened", ["contracted", "unsuccessful"], FOUND, 5, ["contract", ["contract", "L1"]], "later waiting later"),
     ("opened", ["paid", "contracted"], FOUND, 5, ["contract", ["end", "L1"], ["contract", "L2"]], "later waiting later"),
     ("opened", ["ended", "cancelled"], FOUND, 5, ["over"], "waiting waiting waiting"),
-    ("opened", ["contracted", "undecided"], FOUND, 5, ["award", ["binds", BINDS], ["contract", "L1"], ["endlot", "L2"]], "week waiting later"),
+    ("opened", ["contracted", "undecided"], FOUND, 5, ["award", ["endlot", "L2"], ["contract", "L1"], ["binds", BINDS]], "week waiting later"),
 ]
 # Notices without an evaluation: a state, that of the lot, the moment, and the group.
 GROUPS = [("receiving", "undecided", -7 * DAY, "waiting"), ("receiving", "undecided", 1 - 7 * DAY, "week"), ("opened", "awarded", DAY, "waiting")]
@@ -272,8 +309,26 @@ HOURS = [("2027-03-28T02:30", "missing"), ("2027-03-28T01:59", None), ("2027-03-
          ("2027-10-31T02:30:00", "twice"), ("2027-10-31T01:59", None), ("2027-10-31T03:00", None), ("2027-06-01T02:30", None), ("", None)]
 
 
+# Fields with a date and a time, by the city's zone, or the browser's if its name is empty or unknown: the moment, and what the field then shows.
+ZONES = [("", "2027-01-01T12:00", "2027-01-01T11:00:00Z", None), ("No/Where", "2027-06-01T12:00", "2027-06-01T10:00:00Z", None),
+         ("America/New_York", "2027-01-01T12:00", "2027-01-01T17:00:00Z", None),
+         ("America/New_York", "2027-03-14T02:30", "2027-03-14T07:30:00Z", "2027-03-14T03:30"),
+         ("America/New_York", "2027-11-07T01:30", "2027-11-07T05:30:00Z", None), ("Asia/Kolkata", "2027-06-01T00:10:30", "2027-05-31T18:40:30Z", None)]
+# Amounts as people paste them.
+AMOUNTS = [("46.000,00 €", "46000"), ("EUR 1,450", "1450"), ("118.000,-", "118000"), ("12 Euro", "12"), ("0,500 €", None), ("1.5 €", None), ("x €", None)]
+# Titles, and whether they look misread.
+TITLES = [("Straße, Größe, Café", False), ("Straáe", True), ("Äîðîãà", True), ("Gr”áe", True), ("Gr”n", True), ("Дорога", True), ("Roads “A”", False)]
+
+
+def zones(node):
+    """A field has the time of the city's zone, as everything that is shown. In an hour that comes twice it is the first one."""
+    answers(node, "inZone", *((name, text, [moment, shown or text]) for name, text, moment, shown in ZONES))
+
+
 def budgets(node):
-    """The clerk is warned of a budget file that was taken in before, and of one that would double a line."""
+    """The clerk is warned of a budget file that was taken in before, of one that would double a line, and of titles that look misread."""
+    answers(node, "amountOf", *AMOUNTS)
+    answers(node, "(title) => oddTitles([{ title }]).length > 0", *TITLES)
     file = f"{BUDGET}\n1000,add,2500,Roads\n2000,add,50,Parks\n"
     turned = f'{BUDGET}\n2000,add,50,"Parks, and trees"\r\n1000,add,2500,Roads\r\n'
     known = [{"line": "1000", "appropriation": 2500, "free": 0}, {"line": "2000", "appropriation": 60, "free": 60}]
@@ -287,10 +342,10 @@ def budgets(node):
 
 def converts(node):
     """A spreadsheet's budget file is converted to the office's form with each change listed, and nothing is guessed."""
-    for it in DATA["converted"]:
-        told = node.ask("convertedFrom", list(it["text"].replace("\n", it.get("end", "\n")).encode(it.get("coding", "utf-8"))))
-        wanted = [it["made"], it["lines"], [[*change, None][:3] for change in it["changes"]]] if "made" in it else None
-        assert told == wanted, it["text"]
+    for coding, text, *wanted in DATA["converted"]:
+        if wanted:
+            wanted[2] = [[*change, None][:3] for change in wanted[2]]
+        assert node.ask("convertedFrom", list(text.encode(coding))) == (wanted or None), text
 
 
 def drafts(node):
@@ -307,10 +362,39 @@ def drafts(node):
     answers(node, "warningsAbout", ({}, "2027-03-28T02:30", NOW, ["hour", "hour.missing"]))
 
 
+# ---- Pictures.
+
+def pictures(node):
+    """The steps in the picture of a procurement, each done, under way or to come. The marks of its axis. The months and years of payments."""
+    script = f"""(notice, now) => stepsOf(notice).map((one) => [one.step, one.lot, ...[one.from, one.to].map((it) => it && (it - {DEADLINE}) / {DAY}),
+        stateOfStep(one, now)].filter((it) => it !== undefined).join(' '))""".replace("\n", "")
+    for status, days, now, steps in DATA["pictured"]:
+        moment = f"(days) => days < 999 ? new Date({DEADLINE} + days * {DAY}).toISOString() : null"
+        opened, awarded, signed, ended = (node.ask(moment, it) for it in days)
+        compiled = {"tender": {"status": status, "lots": [{"id": "L1"}], "tenderPeriod": {"startDate": "2026-02-01", "endDate": "2026-03-01"}},
+                    "awards": [{"id": "1", "date": awarded, "relatedLots": ["L1"]}] if awarded else [],
+                    "contracts": [{"id": "1", "awardID": "1", "dateSigned": signed}] if signed else []}
+        releases = [{"tag": ["contractTermination" if signed else "tenderCancellation"], "date": ended, "contracts": [{"id": "1"}]}] if ended else []
+        notice = {"compiled": compiled, "releases": releases, "terms": {"opened": opened, "standstill_days": 10, "validity_days": 90}}
+        answers(node, script, (notice, DEADLINE + now * DAY, steps))
+    for days, *wanted in DATA["axes"]:
+        first = 1_738_368_000_000
+        answers(node, f"(...asked) => [marksOf(...asked)].map((it) => [it.unit, it.marks.map((at) => (at - {first}) / {DAY})])[0]",
+                (first, first + days * DAY, 5, wanted))
+    paid = [{"date": f"{month}-03T00:00:00Z", "amount": 5} for month in ("2025-11", "2026-02", "2026-02")]
+    answers(node, "monthsOf", (paid, [["2025-11", 5], ["2025-12", 0], ["2026-01", 0], ["2026-02", 10]]))
+    answers(node, "(rows) => [monthsOf(rows).length, monthsOf(rows)[0][0]]", ([*paid, {"date": "2021-01-01T00:00:00Z", "amount": 1}], [24, "2024-03"]))
+    told = {"lots": [{"notice": "N", "lot": name, "estimate": at} for at, name in enumerate(("L0", "L1", "L2"))], "payments": paid,
+            "contracts": [{"notice": "N", "lot": name, "signed": "2025-12-31T23:59:59Z", "price": 4} for name in ("L1", "L2")]}
+    # (In Berlin these were signed in 2026.)
+    years = [("2026", 2, 3, 8, 10), ("2025", 0, 0, 0, 5)]
+    answers(node, "yearsOf", (told, [dict(zip(("year", "count", "estimate", "price", "paid"), one)) for one in years]))
+
+
 # ---- What the pages load.
 
 def loaded(web, entry, language):
-    """The texts of the modules that a page loads at once, by their paths: its first module, those that it imports, and its texts in a language."""
+    """The texts of the modules that a page loads at once, by their paths: its first module, its imports, and its texts in a language, if one is given."""
     found, left = {}, [entry]
     while left:
         path = os.path.normpath(left.pop())
@@ -324,13 +408,17 @@ def loaded(web, entry, language):
 
 def sizes(node):
     """No module has more than 300 lines. No page loads more bytes at once than this file allows. All modules with the texts of one language have at most
-    182,000 bytes by gzip, each compressed alone, as nginx sends it."""
+    206,000 bytes by gzip, each compressed alone, as nginx sends it."""
     files = {path: path.read_bytes() for path in Path(node.web).rglob("*.js")}
     assert [path for path, data in files.items() if data.count(b"\n") > MOST_LINES] == []
     for entry, most in MOST_BYTES.items():
         size = max(sum(len(text.encode()) for text in loaded(node.web, entry, language).values()) for language in LANGUAGES)
         print(f"{entry} {size:,} of {most:,}")
         assert size <= most, entry
+        # The browser asks for all modules of the first screen at once, as the page names them, and not one after another.
+        page = Path(node.web, entry).with_name("index.html").read_text(encoding="utf-8")
+        first = {path for path in loaded(node.web, entry, None) if path != entry}
+        assert set(re.findall(r'<link rel="modulepreload" href="/([^"]+)">', page)) == first, entry
     zipped = {path: len(gzip.compress(data, 5)) for path, data in files.items()}
     for other in LANGUAGES:
         size = sum(size for path, size in zipped.items() if not re.match(rf"{other}(_[a-z]+)?\.js$", path.name))
@@ -338,7 +426,8 @@ def sizes(node):
         assert size <= MOST_ZIPPED, other
 
 
-CHECKS = {check.__name__: check for check in (texts, lines, states, outcomes, points, plans, tables, stages, budgets, converts, drafts, sizes)}
+CHECKS = {check.__name__: check for check in (
+    texts, lines, helps, states, outcomes, points, plans, tables, stages, zones, budgets, converts, drafts, pictures, sizes)}
 WRONG = DATA["wrong"]
 
 

@@ -1,4 +1,4 @@
-"""The portal (web/) and the front (deploy/nginx.conf): nginx in front of an office, and a browser without a window.
+"""The portal (web/) and the front (deploy/nginx/): nginx in front of an office, and a browser without a window.
 
 The office has six notices and its mirror (office_kit/desks/page_office.py). The front is asked until the deadline comes (office_kit/front/checks.py), and the
 page after it (page_checks.py and portal_checks.py in office_kit/desks/). The text of each view is compared with `page_texts/`, except for moments. Another
@@ -15,7 +15,7 @@ from office_kit.desks.tender_page import planted
 from office_kit.front import checks
 from office_kit.front.nginx import LEDGER_OF_NOW
 
-pytestmark = [pytest.mark.needs("nginx", "openssl"), pytest.mark.nginx, pytest.mark.budget(420)]
+pytestmark = [pytest.mark.needs("nginx", "openssl"), pytest.mark.nginx]
 
 
 @pytest.fixture(scope="module")

@@ -1,4 +1,4 @@
-"""The tenderer's desk (web/tender): nginx with deploy/nginx.conf in front of an office, and a browser without a window.
+"""The tenderer's desk (web/tender): nginx with deploy/nginx/ in front of an office, and a browser without a window.
 
 A comment above each check says what it is about: those of a tender's life in office_kit/desks/tender_checks.py, those of the desk's looks in tender_shapes.py
 beside it. Faults are planted in modules of the desk, and checks must find each of them. Another office has 400 notices and its mirror (large_checks.py).
@@ -8,7 +8,7 @@ import pytest
 from office_kit.desks import large_checks, tender_checks, tender_shapes
 from office_kit.desks.tender_page import Desk, planted
 
-pytestmark = [pytest.mark.needs("nginx", "openssl"), pytest.mark.nginx, pytest.mark.budget(360)]
+pytestmark = [pytest.mark.needs("nginx", "openssl"), pytest.mark.nginx]
 
 
 @pytest.fixture(scope="module")

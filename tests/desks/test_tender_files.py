@@ -15,9 +15,10 @@ from office_kit.api import tenders
 from office_kit.api.tenders import KINDS, Case
 from office_kit.desks import modules
 
-pytestmark = [pytest.mark.needs("node"), pytest.mark.budget(120)]
+pytestmark = pytest.mark.needs("node")
 NAMES = "tender/papers tender/faults tender/convert"
 DATA = modules.data_of("tender_files")
+WANTED = {name: letters for letters, names in DATA["forms"].items() for name in names}
 HEADS = {"english": [["Item", "Quantity", "Unit price", "Total"], ["Pos.", "Menge", "Einzelpreis", "Gesamtpreis"]],
          "german": [["item", "quantity", "unit", "total"], ["Item", "Quantity", "Unit price", "Total"], ["Pos.", "Menge", "Einzelpreis", "Gesamtpreis"]]}
 
@@ -57,7 +58,7 @@ class Files:
     def __init__(self, reader, count):
         self.reader, self.tool = reader, tenders.tool()
         cases = [*tenders.known(), *tenders.samples(tenders.FILES, count), *[Case("unsure", 0, text.encode()) for text in DATA["unsure"]["files"]],
-                 *[Case("firm", it["kind"], it["file"].encode()) for it in DATA["firms"]]]
+                 *[Case("firm", kind, text.encode()) for kind, text, _ in DATA["firms"]["files"]]]
         sheets = tenders.samples(tenders.CHANCE.map(sheet), 200)
         self.all = [self.read(case, []) for case in cases] + [self.read(*it) for it in sheets]
         # (Most of the made files are left out when rules are changed, since reading them takes long.)
@@ -107,7 +108,7 @@ def tells_changes(data, made, names):
     return not others or bool(names & {"figure", "filled", "sum", "product", "sumCleared"})
 
 
-@pytest.fixture(scope="module", params=[500, pytest.param(5000, marks=[pytest.mark.long, pytest.mark.budget(900)])])
+@pytest.fixture(scope="module", params=[500, pytest.param(5000, marks=[pytest.mark.long])])
 def files(program, tmp_path_factory, request):
     return Files(tenders.Reader(program, str(tmp_path_factory.mktemp("items"))), request.param)
 
@@ -126,7 +127,7 @@ def test_files(files, told):
 @pytest.mark.parametrize("name", tenders.FORMS)
 def test_form(told, name):
     """The files of a form are left, converted or refused as they must be."""
-    assert "".join(it["kind"][0] for file, it in told if file.case.source == name) == DATA["forms"][name]
+    assert "".join(it["kind"][0] for file, it in told if file.case.source == name) == WANTED[name]
 
 
 def test_unsure_files(told):
@@ -135,8 +136,8 @@ def test_unsure_files(told):
 
 def test_files_of_firms(told):
     """From each file of a firm these prices are made, or it is refused with these faults."""
-    for firm, it in zip(DATA["firms"], (it for file, it in told if file.case.source == "firm"), strict=True):
-        assert (units_of(base64.b64decode(it["made"])) or sorted(it["faults"])) == firm["wanted"], firm["file"]
+    for (_, text, wanted), it in zip(DATA["firms"]["files"], (it for file, it in told if file.case.source == "firm"), strict=True):
+        assert (units_of(base64.b64decode(it["made"])) or sorted(it["faults"])) == wanted, text
 
 
 def test_sheets(told):
@@ -157,7 +158,7 @@ def test_changed_rule(files, tmp_path, change):
     told = files.answers(modules.copy_of(str(tmp_path), change), files.few)
     with pytest.raises(AssertionError):
         test_files(files, told)
-        for name in DATA["forms"]:
+        for name in WANTED:
             test_form(told, name)
         test_unsure_files(told)
         test_files_of_firms(told)

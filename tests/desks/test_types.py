@@ -10,7 +10,7 @@ import pytest
 
 from office_kit.desks import modules
 
-pytestmark = [pytest.mark.needs("tsc"), pytest.mark.budget(120)]
+pytestmark = pytest.mark.needs("tsc")
 # A module, a text in it, and the wrong text.
 PLANTS = [("common/filters.js", "noticeOf(list, text) {", "noticeOf(list) {"), ("common/money.js", "units.slice(-1)", "units.slize(-1)"),
           ("clerk/letters.js", "drawLetter(_again, name", "drawLetter(again, name"), ("common/csv.js", "(numberOf(field) ", "(numberOf(field, 10) "),

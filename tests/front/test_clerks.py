@@ -1,4 +1,5 @@
-"""Clerks who sign in at the front by name (deploy/clerks*.conf), by password and by certificate, with nginx and a server in place of the office.
+"""Clerks who sign in at the front by name (deploy/clerks.conf, deploy/nginx/clerks*.conf), by password and by certificate, with nginx and a server in place of
+the office.
 
 Each check also runs over files in which a fault was planted (test_clerks.toml): there it must fail.
 
@@ -26,7 +27,7 @@ from office_kit.front.office import Office
 from office_kit.store.life import AuditedLife
 from office_kit.store.planted_lines import NAMES as NAMED
 
-pytestmark = [pytest.mark.needs("nginx", "openssl", "curl"), pytest.mark.nginx, pytest.mark.budget(120)]
+pytestmark = [pytest.mark.needs("nginx", "openssl", "curl"), pytest.mark.nginx]
 PLANTS = tomllib.loads(Path(__file__).with_suffix(".toml").read_text(encoding="utf-8"))
 SMALLER = PLANTS.pop("smaller")
 ROLES = {"anna": "notices", "bert": "budget", "cora": "evaluation", "dora": "contracts", "emil": "all", "fred": "notices contracts"}
@@ -56,8 +57,8 @@ def keys_seen(office):
 
 
 def roles(front, office):
-    """Each role gives exactly its commands, which docs/OPERATING.md lists, and all queries. The office sees an allowed request, and no other one."""
-    rows = re.findall(r"(?m)^\| `(budget|notices|evaluation|contracts)` \| ([^|]*) \|", Path(ROOT, "docs", "OPERATING.md").read_text(encoding="utf-8"))
+    """Each role gives exactly its commands, which docs/INSTALL.md lists, and all queries. The office sees an allowed request, and no other one."""
+    rows = re.findall(r"(?m)^\| `(budget|notices|evaluation|contracts)` \| ([^|]*) \|", Path(ROOT, "docs", "INSTALL.md").read_text(encoding="utf-8"))
     commands = {placed(command): role for role, listed in rows for command in re.findall(r"`(POST [^`]*)`", listed)}
     assert sorted(commands) == sorted(f"POST {path}" for method, path, callers in routes() if method == "POST" and callers == "clerk")
     queries = [f"GET {path}" for method, path, callers in routes() if method == "GET" and callers.startswith("clerk")]
@@ -198,7 +199,7 @@ def commands_of_fred(front):
     with contextlib.closing(front.connection(name="fred")) as connection:
         for path, body in asked:
             exchange(connection, "POST", path, body, None, {"Office-Caller": "clerk", **front.signing.fields("fred")})
-    # By HTTP/2 a body may come without its length. Clerks sign in as OPERATING.md and CLERK-API.md say.
+    # By HTTP/2 a body may come without its length. Clerks sign in as INSTALL.md and CLERK-API.md say.
     further = [("/contracts/2/end", b'{"how":"default"}', ["--data-binary", "@-"]), ("/contracts/3/end", b"z" * 65_536, ["-X", "POST", "-T", "-"])]
     signed = ["-u", f"fred:{front.signing.passwords['fred']}"] if front.signing.way == "password" else [
         "--cert", f"{front.folder}/fred.pem", "--key", f"{front.folder}/fred.key"]
@@ -252,8 +253,8 @@ CHECKS = {roles: WAYS, keys: WAYS, strangers: WAYS, removed: WAYS, who: WAYS, li
 def run(one, way, folder, *faults):
     """Runs a check over a front and a server of its own."""
     folder.mkdir()
-    signing = Signing(way, ROLES, [NOBODY], [*SMALLER.get(one.__name__, []), *faults])
-    with Office() as office, Front(str(folder), office.port, (), signing) as front, contextlib.suppress(BrokenPipeError):
+    changes = [*SMALLER.get(one.__name__, []), *faults]
+    with Office() as office, Front(str(folder), office.port, changes, Signing(way, ROLES, [NOBODY])) as front, contextlib.suppress(BrokenPipeError):
         one(front, office)
 
 
@@ -266,7 +267,7 @@ def test_front(tmp_path, one, way):
                                         for one in CHECKS for number, fault in enumerate(PLANTS[one.__name__])])
 def test_planted_fault(tmp_path, one, fault):
     """The check fails, in one of its ways of signing in."""
-    for way in [it for it in CHECKS[one] if fault[0] in ("nginx.conf", "clerks.conf", f"clerks-{it}.conf")]:
+    for way in CHECKS[one]:
         try:
             run(one, way, tmp_path / str(way), fault)
         except (AssertionError, ValueError):

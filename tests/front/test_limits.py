@@ -1,5 +1,5 @@
-"""The front (deploy/nginx.conf) with nginx alone. In place of the office, a small server records the requests that reach it. The office and a browser aren't
-needed. Each check also runs over files in which a fault was planted (test_limits.toml): there it must fail.
+"""The front (deploy/front.conf, deploy/nginx/) with nginx alone. In place of the office, a small server records the requests that reach it. The office and a
+browser aren't needed. Each check also runs over files in which a fault was planted (test_limits.toml): there it must fail.
 """
 import contextlib
 import email.utils
@@ -7,21 +7,22 @@ import functools
 import http.client
 import os
 import re
+import runpy
 import subprocess
 import time
 import tomllib
 from collections import Counter
-from concurrent.futures import ThreadPoolExecutor, wait
+from concurrent.futures import ThreadPoolExecutor
 from pathlib import Path
 
 import pytest
 
-from office_kit.common import CLERK, HOST, ROOT, until
-from office_kit.front.checks import is_own
+from office_kit.common import CLERK, HOST, ROOT, busy, unread, until
+from office_kit.front.checks import is_own, placed, routes
 from office_kit.front.nginx import OUTSIDE, PATIENCE, Front, exchange, fields_of
 from office_kit.front.office import WRONG, Office
 
-pytestmark = [pytest.mark.needs("nginx", "openssl", "curl"), pytest.mark.nginx, pytest.mark.budget(120)]
+pytestmark = [pytest.mark.needs("nginx", "openssl", "curl"), pytest.mark.nginx]
 PLANTS = tomllib.loads(Path(__file__).with_suffix(".toml").read_text())
 SMALLER = PLANTS.pop("smaller")
 TENDERS, ONE, SECURITY, CLERKS_OWN, EVALUATION = "/notices/N1/lots/L1/tenders", "/tenders/1", "/securities/1", "/notices/N1/register", "/notices/N1/evaluation"
@@ -31,6 +32,8 @@ PUBLIC = DEAR + ["/notices", "/notices/N1/terms"]
 WITH_KEYS = [(ONE, "T1"), (SECURITY, "T1"), (CLERKS_OWN, "clerk"), ("/notices/N1/tenders", "T1"), ("/notices/N1/securities", "clerk"), ("/tenderers", "clerk"),
              ("/contracts/1", "T1"), (EVALUATION, "clerk")]
 SITE = "https://example.org"
+# A right key that is long enough for the front to know it again, and a wrong one.
+LONG, WRONG_KEY = "right" * 8, "wrong" * 8
 
 
 def caller(name, key="right"):
@@ -38,9 +41,15 @@ def caller(name, key="right"):
 
 
 def waits(answer):
-    """Waits as long as an answer says."""
+    """Waits as long as an answer says, and no longer."""
     assert is_own(answer, 429) and answer.head["Retry-After"] == "2"
-    time.sleep(int(answer.head["Retry-After"]) + 1.1)
+    time.sleep(int(answer.head["Retry-After"]))
+
+
+def become_known(front, *callers):
+    """These callers ask something, and the front makes a file of each."""
+    assert set(statuses_of(front, callers)) == {200}
+    assert until(lambda: all(os.path.exists(f"{front.folder}/known/keys/{name.decode()}.{key.decode()[-8:]}") for name, key in callers), 20)
 
 
 def paths_at(office):
@@ -49,9 +58,13 @@ def paths_at(office):
 
 def queued(office):
     """How many connections wait in the queue of the office's socket, or are served."""
-    with open("/proc/net/tcp") as table:
-        rows = [line.split() for line in table][1:]
-    return sum(row[1].endswith(f":{office.port:04X}") and row[3] in ("01", "08") for row in rows)
+    return len(unread(office.port))
+
+
+def are_in(front, asked):
+    """Whether each of these requests is answered, or waits on a connection of which nginx has read everything."""
+    left = unread(front.port)
+    return len(left) + sum(it.done() for it in asked) >= len(asked) and not any(left)
 
 
 def status_of(front, method, path, who=None, source=HOST, stays=True):
@@ -69,7 +82,7 @@ asking = functools.partial(ThreadPoolExecutor(500).submit, status_of)
 
 
 def ended(asked, patience=5.0):
-    return not wait(asked, patience).not_done
+    return until(lambda: all(it.done() for it in asked), patience)
 
 
 def count(asked, status):
@@ -193,16 +206,18 @@ def the_interface(front, office):
 
 
 def the_health(front, office):
-    """/health asks the office each time, for an empty page of its notices, without a key. It can't be asked without end."""
+    """/health asks the office each time, for an empty page of its notices, without a key. It can't be asked without end, and monitors are still answered
+    then."""
     for _ in range(4):
         answer = front.ask("GET", "/health", caller=caller("T1", "wrong"))
         assert answer.status == 200 and answer.body.startswith(b"{")
     assert [(it.method, it.path) for it in office.came] == [("GET", "/notices?after=" + "z" * 32)] * 4
     assert not any(name in it.head for it in office.came for name in ("Office-Caller", "Office-Key"))
-    with contextlib.closing(front.connection()) as connection:
+    with contextlib.closing(front.connection(OUTSIDE)) as connection:
         statuses = [exchange(connection, "GET", "/health").status for _ in range(200)]
     # (Without the limit a few find the place of the way still taken.)
     assert statuses.count(429) > 50
+    assert [front.ask("GET", "/health").status for _ in range(5)] == [200] * 5
 
 
 def no_office(front, office):
@@ -210,6 +225,9 @@ def no_office(front, office):
     answer = front.ask("POST", "/budget/B1", b"x", caller("clerk"), OUTSIDE)
     assert answer.status == 403 and b"clerks' networks" in answer.body
     office.server_close()
+    assert front.ask("POST", f"{TENDERS}?reference=G1&amount=70707", b"x", caller("T1")).status == 502
+    assert front.ask("POST", f"{TENDERS}?reference=G1&amount=70707", b"x" * 65_537, caller("T1")).status == 413
+    assert "70707" not in front.logged("errors.log") + front.logged("access.log"), "the amount of a tender's security"
     for path in (TENDERS, "/budget/B1", "/health"):
         answer = front.ask("POST", path, b"x", caller("T1"))
         assert answer.status == 502 and b"the office didn't answer" in answer.body, path
@@ -234,16 +252,17 @@ def kept(front, office):
     """`Last-Modified` is the moment of the office's answer. (nginx counts the age of an answer in whole seconds.)"""
     given = {path: front.ask("GET", path).head["Last-Modified"] for path in PUBLIC}
     for path, moment in given.items():
-        assert moment and abs(email.utils.parsedate_to_datetime(moment).timestamp() - time.time()) < 2, path
+        assert moment and abs(email.utils.parsedate_to_datetime(moment).timestamp() - time.time()) < 9, path
     begun, seen = time.monotonic(), {}
-    while time.monotonic() - begun < 5.5:
+    slower = busy()
+    while time.monotonic() - begun < 5.5 * slower:
         for number, path in enumerate(PUBLIC, 1):
             answer, at = front.ask("GET", path, source=f"127.0.2.{number}"), time.monotonic() - begun
             if answer.head["Last-Modified"] != given[path]:
                 seen.setdefault(path, at)
         time.sleep(0.1)
-    assert all(seen.get(path, 99) < 2.5 for path in ("/notices", "/notices/N1/terms")), seen
-    assert all(1.9 < seen.get(path, 99) < 4.6 for path in DEAR if path != "/ledger"), seen
+    assert all(seen.get(path, 99) < 2.5 * slower for path in ("/notices", "/notices/N1/terms")), seen
+    assert all(1.9 < seen.get(path, 99) < 4.6 * slower for path in DEAR if path != "/ledger"), seen
     assert "/ledger" not in seen and paths_at(office).count("/ledger") == 1
 
 
@@ -260,12 +279,13 @@ def shown_meanwhile(front, office):
 
 
 def the_ledger_rests(front, office):
-    """In the seconds in which the front may not ask for the ledger, it shows the one before, or answers 429. Other queries aren't affected. (Here it may ask in
-    the first half of each ten seconds, and keeps the ledger for a second.)"""
+    """In the seconds in which the front may not ask for the ledger, it shows the one before, or answers 429 and when it may be asked for. Other queries aren't
+    affected. (Here it may ask in the first half of each ten seconds, and keeps the ledger for a second.)"""
     def comes(second):
         until(lambda: int(time.time()) % 10 == second, 11)
         return front.ask("GET", "/ledger")
-    assert comes(6).status == 429 and not office.came
+    answer = comes(6)
+    assert answer.status == 429 and answer.head["Retry-After"] in ("5", "15", "25", "35") and not office.came
     assert front.ask("GET", "/lines/1000").status == 200
     given = comes(3)
     assert given.status == 200
@@ -275,32 +295,34 @@ def the_ledger_rests(front, office):
     assert paths_at(office).count("/ledger") == 1
 
 
-def two_at_a_time(front, office):
-    """The office gets two dear queries at a time, however many clients ask, even if they disconnect. If one waits too long, the answer is 429. Of the clerk's
-    queries the office gets one at a time."""
+def few_at_a_time(front, office):
+    """The office gets two dear queries at a time, however many clients ask, even if they disconnect, and eight others. If one waits too long, the answer is
+    429. Of the clerk's queries the office gets two at a time."""
+    clerk = caller("clerk", LONG)
+    become_known(front, clerk)
     office.held.clear()
     for round_ in range(3):
-        lines = [asking(front, "GET", f"/lines/{round_}-{number}", source=f"127.0.2.{number + 1}", stays=number % 2) for number in range(20)]
-        stay = lines[1::2] + [asking(front, "GET", CLERKS_OWN, caller("clerk")) for _ in range(10)]
-        time.sleep(0.8)
-        assert queued(office) == 3
-    time.sleep(10)
-    assert queued(office) == 3 and count(stay, 0) <= 3 and count(stay, 429) >= 16
+        asked = [asking(front, "GET", path.format(f"{round_}-{number}"), source=f"127.0.2.{number + 1}", stays=number % 2)
+                 for number in range(20) for path in ("/notices/{}/record", "/lines/{}")]
+        asked += [asking(front, "GET", CLERKS_OWN, clerk) for _ in range(10)]
+        assert until(lambda: queued(office) == 12)
+    # (Of the last round 30 stay.)
+    assert until(lambda: count(asked, 0) <= 32 and count(asked, 429) >= 16, 20) and queued(office) == 12
     office.held.set()
-    assert ended(lines + stay)
+    assert ended(asked)
     office.pause = 0.02
-    asked = [asking(front, "GET", f"/lines/{number}", source=f"127.0.3.{number}") for number in range(1, 17)]
+    asked = [asking(front, "GET", f"/notices/{number}/record", source=f"127.0.3.{number}") for number in range(1, 17)]
     assert ended(asked) and count(asked, 200) == 16
 
 
 def one_ledger(front, office):
     """The office makes one ledger at a time, for the public and the clerk together."""
+    become_known(front, caller("clerk", LONG))
     office.held.clear()
     for _ in range(2):
-        asked = [asking(front, "GET", "/ledger", caller("clerk")) for _ in range(4)]
+        asked = [asking(front, "GET", "/ledger", caller("clerk", LONG)) for _ in range(4)]
         asked += [asking(front, "GET", "/ledger", source=f"127.0.2.{number + 1}") for number in range(4)]
-        time.sleep(0.8)
-        assert queued(office) == 1
+        assert until(lambda: queued(office) == 1)
     office.held.set()
     assert ended(asked)
 
@@ -315,24 +337,22 @@ def ten_of_an_address(front, office):
 
 
 def ways_are_full(front, office):
-    """All ways are full, and the office answers nobody. A hundred tenders reach its socket, and all succeed once it answers. So do two hundred."""
-    for many in (100, 200):
+    """All ways are full, and the office answers nobody. Ninety tenders of known callers reach its socket, and all succeed once it answers. So do two
+    hundred."""
+    known = [caller("clerk", LONG), *(caller(f"T{number}", LONG) for number in range(200))]
+    become_known(front, *known)
+    for many in (90, 200):
         office.held.clear()
-        others = [asking(front, "GET", f"{path}?{number}" if path == "/notices" else path, who, f"127.0.4.{number + 1}")
-                  for number in range(20) for path, who in (("/notices", None), ("/lines/1000", None), (ONE, caller(f"T{number}")))]
-        others += [asking(front, "POST", "/tenderers/T5", caller("clerk")) for _ in range(20)] + [asking(front, "GET", "/health") for _ in range(5)]
-        others += [asking(front, "GET", CLERKS_OWN, caller("clerk")) for _ in range(5)]
-        time.sleep(1.5)
-        assert 10 < queued(office) <= 28
-        tenders = [asking(front, "POST", TENDERS, caller(f"T{number}"), f"127.0.5.{number % 4}") for number in range(many)]
-        time.sleep(1)
-        assert many > 100 or queued(office) >= 100
-        assert count(tenders, 0) == many
+        others = [asking(front, "GET", path.format(f"{many}-{number}"), who, f"127.0.4.{number + 1}") for number in range(20)
+                  for path, who in (("/notices?{}", None), ("/notices/{}/record", None), (ONE, known[number + 1]), (ONE, caller(f"X{many}-{number}", LONG)),
+                                    ("/health", None))]
+        others += [asking(front, "POST", "/tenderers/T5", known[0]) for _ in range(20)] + [asking(front, "GET", "/health") for _ in range(5)]
+        others += [asking(front, "GET", CLERKS_OWN, known[0]) for _ in range(5)]
+        assert until(lambda: are_in(front, others) and queued(office) >= 38, 40) and queued(office) <= 39, queued(office)
+        tenders = [asking(front, "POST", TENDERS, known[number + 1], f"127.0.5.{number % 4}") for number in range(many)]
+        assert until(lambda: are_in(front, others + tenders), 8) and (many > 90 or until(lambda: queued(office) >= 127, 8)) and count(tenders, 0) == many
         office.held.set()
-        begun = time.monotonic()
-        assert until(lambda: count(tenders, 0) == 0, 8)
-        took = time.monotonic() - begun
-        assert count(tenders, 200) == many and took < (1 if many == 100 else 7)
+        assert until(lambda: count(tenders, 0) == 0, 30) and count(tenders, 200) == many
         assert ended(others, 8)
 
 
@@ -354,66 +374,101 @@ def sixty_tenderers(front, office):
     """Sixty tenderers share one address. Each presents three tenders at once, and all reach the office."""
     names = [f"T{number}" for number in range(60)]
     with ThreadPoolExecutor(60) as pool:
-        statuses = Counter(pool.map(lambda name: front.ask("POST", TENDERS, b"An offer", caller(name, f"key of {name}")).status, names * 3))
+        statuses = Counter(pool.map(lambda name: front.ask("POST", TENDERS, b"An offer", caller(name, f"key-of-{name}".ljust(40, "x"))).status, names * 3))
     assert statuses == {200: 180}
     assert Counter(it.head["Office-Caller"] for it in office.came) == Counter(names * 3)
 
 
-def statuses_of(front, callers):
-    """The statuses of tenders of these callers, one after another on a connection."""
-    with contextlib.closing(front.connection()) as connection:
-        return [exchange(connection, "POST", TENDERS, b"An offer", who).status for who in callers]
+def statuses_of(front, callers, source=HOST, path=TENDERS, **fields):
+    """The statuses of requests of these callers, one after another on a connection."""
+    with contextlib.closing(front.connection(source)) as connection:
+        return [exchange(connection, "POST", path, b"An offer", who, fields).status for who in callers]
 
 
 def one_caller(front, office):
-    """Of one caller's hundred requests at once the office gets some forty. Another caller of that address is answered meanwhile, also under the same name."""
-    begun = time.monotonic()
-    statuses = statuses_of(front, [caller("T1")] * 100)
-    # (two more are free each second)
-    assert 40 <= statuses.count(200) <= 42 + 2 * (time.monotonic() - begun) and set(statuses) <= {200, 429}
-    assert statuses_of(front, [caller("T2"), caller("T1", "another")]) == [200, 200]
+    """Of one caller's two hundred requests at once, from ten addresses, the office gets some forty, however the caller writes its name and key. Another caller
+    of these addresses is answered meanwhile, also under the same name."""
+    for key in ("right", LONG):
+        begun, sources = time.monotonic(), [f"127.0.2.{number}" for number in range(1, 11)]
+        statuses = [status for source in sources for status in statuses_of(front, [caller("T1", key), caller("\tT1\t", f"{key}\t")] * 10, source)]
+        # (two more are free each second)
+        assert 40 <= statuses.count(200) <= 42 + 2 * (time.monotonic() - begun) and set(statuses) <= {200, 429}
+        assert statuses_of(front, [caller("T2"), caller("T1", "another")], sources[0]) == [200, 200]
 
 
 def invented_names(front, office):
-    """A client that comes under a new name each time is limited by its address. (Here the burst is smaller, and the rate.)"""
+    """A client that comes under a new name each time is limited by its address, also without keys. (Here the burst is smaller, and the rate.)"""
+    begun, source = time.monotonic(), "127.0.2.1"
+    statuses = statuses_of(front, [caller(f"X{number}", "") for number in range(100)], source)
+    assert 40 <= len(office.came) == statuses.count(200) <= 42 + 2 * (time.monotonic() - begun)
+    office.came.clear()
     begun = time.monotonic()
     statuses = statuses_of(front, [caller(f"X{number}", "wrong" * (1 + 100 * (number % 2))) for number in range(200)])
-    assert len(office.came) <= 62 + 5 * (time.monotonic() - begun) and statuses.count(429) == 200 - len(office.came)
+    assert 60 <= len(office.came) <= 62 + 5 * (time.monotonic() - begun)
+    assert Counter(statuses) == {401: len(office.came), 429: 200 - len(office.came)}
+
+
+def one_network(front, office):
+    """All IPv6 addresses of a /64 have one limit. (Here a field of the head says the address, and the limit is smaller.)"""
+    begun, statuses = time.monotonic(), Counter()
+    for number in range(4):
+        statuses.update(statuses_of(front, [caller(f"X{number}-{it}", "wrong") for it in range(50)], Address=f"2001:db8::{number}:a"))
+    assert 60 <= statuses[401] <= 62 + 5 * (time.monotonic() - begun) and statuses[429] == 200 - statuses[401]
+    for address in ("2001:db8:0:1::1", "198.51.100.1", "198.51.100.2"):
+        assert set(statuses_of(front, [caller(f"X{it}", "wrong") for it in range(50)], Address=address)) == {401}, address
 
 
 def wrong_keys(front, office):
-    """After a wrong key, further requests under that name from that address wait and don't reach the office. Other names and other addresses aren't affected.
-    All answers with a key are the office's own."""
-    for path, name, source in ((TENDERS, "T1", OUTSIDE), ("/budget/B1", "clerk", HOST), (EVALUATION, "clerk", HOST)):
+    """Wrong keys are answered as the office does. However many come from an address, they hold up no caller whom the front knows, at that address or another,
+    and nobody at another. Anyone else at that address must wait. (Here the limit is smaller.)"""
+    for path, name, source in ((TENDERS, "T1", OUTSIDE), ("/budget/B1", "clerk", HOST), (EVALUATION, "clerk", "127.0.1.7")):
+        become_known(front, caller(name, LONG))
         office.came.clear()
-        answer = front.ask("POST", path, b"x", caller(name, "wrong"), source)
+        answer = front.ask("POST", path, b"x", caller(name, WRONG_KEY), source)
         assert (answer.status, answer.body, answer.head["Content-Type"]) == (401, WRONG, "application/json") and answer.head["WWW-Authenticate"]
-        begun, asked = time.monotonic(), 0
-        while time.monotonic() - begun < 1.2:
-            answer = front.ask("POST", path, b"x", caller(name, f"wrong {asked}"), source)
-            asked += 1
-        assert asked >= 2 and len(office.came) == 1
-        others = [(caller("T2"), source), (caller(name), "127.0.1.9")]
-        assert [front.ask("GET", ONE, b"", who, at).status for who, at in others] == [200, 200]
-        waits(answer)
-        assert front.ask("POST", path, b"x", caller(name), source).status == 200
-    office.came.clear()
-    for _ in range(2):
-        front.ask("GET", ONE, caller=caller("T3"))
-    assert len(office.came) == 2
+        statuses = statuses_of(front, [caller(name, f"{WRONG_KEY}{it}") for it in range(100)], source, path)
+        assert set(statuses) == {401, 429} and len(office.came) == 1 + statuses.count(401)
+        others = [(caller(name, LONG), source), (caller(name, LONG), "127.0.1.9"), (caller("T2"), "127.0.1.8")]
+        assert [front.ask("GET", ONE, b"", who, at).status for who, at in others] == [200] * 3
+        assert statuses_of(front, [caller(name, LONG)] * 20, source, path) == [200] * 20
+        assert 429 in statuses_of(front, [caller(f"F{it}", LONG) for it in range(9)], source)
 
 
 def sixty_behind_wrong_keys(front, office):
-    """An address sends a hundred wrong keys under as many names. The sixty tenderers of that address are still answered."""
-    statuses = statuses_of(front, [caller(f"X{number}", "wrong") for number in range(100)])
-    assert statuses.count(401) == 100 == len(office.came)
+    """An address sends three wrong keys under each of sixty names, and in the clerk's. The sixty tenderers of that address, who come for the first time, are
+    still answered, and so is the clerk."""
+    statuses = statuses_of(front, [caller(name, "wrong") for name in ["clerk", *(f"T{number}" for number in range(60))] * 3])
+    assert statuses == [401] * 183
     office.came.clear()
     sixty_tenderers(front, office)
+    assert statuses_of(front, [caller("clerk", LONG)], path="/budget/B1") == [200]
+
+
+# ---- The table of routes.
+
+CALLERS = {"tenderers": ("tenderer", "its tenderer"), "both": ("clerk, its tenderer",)}
+
+
+def test_routes():
+    """The table of routes has the routes and callers of docs/API.md, and the files beside it are made of it. A table with another route or caller is found."""
+    folder = Path(ROOT, "deploy", "nginx")
+    table, files, made = (folder / "routes.txt").read_text(), ("routes.conf", "route_maps.conf"), runpy.run_path(f"{ROOT}/tools/front_routes")["made"]
+    due = {(method, path, who) for method, path, who in routes()}
+    assert (folder.parent / "front.conf").read_text().count("\n") <= 40, "what people edit"
+
+    def is_right(text):
+        rows = [line.split() for line in text.splitlines() if not line.startswith("#")]
+        have = {(method, placed(path), who) for asked_by, _, _, _, method, path in rows for who in CALLERS.get(asked_by, (asked_by,))}
+        return due <= have and len(rows) == len(due) and made(text) == {name: (folder / name).read_text() for name in files}
+    assert is_right(table)
+    faults = [("POST /budget/", "POST /budgets/"), ("both         names", "clerk        names"), ("light      3", "light      4"), ("GET /ledger", "GET /led")]
+    for old, new in faults:
+        assert table.count(old) and not is_right(table.replace(old, new)), old
 
 
 CHECKS = [by_http_2, compressed, for_all_sites, asked_first, in_the_clear, for_people, the_list, as_the_clerk, heads, the_interface, the_health, no_office,
-          counts, kept, shown_meanwhile, the_ledger_rests, two_at_a_time, one_ledger, ten_of_an_address, ways_are_full, too_often, sixty_tenderers, one_caller,
-          invented_names, wrong_keys, sixty_behind_wrong_keys]
+          counts, kept, shown_meanwhile, the_ledger_rests, few_at_a_time, one_ledger, ten_of_an_address, ways_are_full, too_often, sixty_tenderers,
+          one_caller, invented_names, one_network, wrong_keys, sixty_behind_wrong_keys]
 
 
 @pytest.mark.parametrize("one, faults", [pytest.param(one, [fault] if fault else [], id=f"{one.__name__}-fault-{number}" if fault else one.__name__)

@@ -1,112 +1,83 @@
-"""`tools/check` over planted tests: it reports those that fail once or twice, need a missing tool, never end, or use too much of the processor, in themselves
-or in processes that they start. It ends these processes.
+"""`tools/check` and `.ci/run`: a test that doesn't run, or that never ends, is reported; with CI=true it has failed. What tests leave running is ended.
+
+Planted tests take the place of the repository's, and a stand-in that of the gate.
 """
 import os
-import time
-import xml.etree.ElementTree
+import sys
 
 import pytest
 
-from office_kit.common import copy_into, ended
-from office_kit.processor import all_processes
+from office_kit.common import copy_into, ended, place_of, stand_in
+from office_kit.needs import TOOLS
 
-pytestmark = pytest.mark.budget(120)
-HEAD = r"""
+PLANTED = '''
 import subprocess
 
 import pytest
 
 from office_kit.common import need
 
-BURN = "i=0; while [ $i -lt 100000000 ]; do i=$((i+1)); done"
-OVER, ENDS, NEEDS = pytest.mark.budget(1), pytest.mark.timeout(3), pytest.mark.needs("nothing-of-this-name")
+
+def test_passes(): subprocess.run("sleep 1000 & echo $! > left.pid", shell=True, check=True)
+def test_fails(): subprocess.run(["false"], check=True)
+@pytest.mark.timeout(3)
+def test_hangs(): subprocess.run(["sleep", "600"])
+@pytest.mark.needs("nothing-of-this-name")
+def test_skips(): pass
+def test_skips_within(): need("nothing-of-that-name", "nothing")
+'''
+LATE = "import os\nimport pytest\nif 'LATE' in os.environ: pytest.importorskip('nothing_like_it')\ndef test_late(): pass\n"
+LIBREOFFICE = "import pytest\n\n\ndef test_libreoffice(): pytest.skip('missing: soffice')\n"
 
 
-@pytest.fixture
-def sh(request):
-    name = request.node.name
-    return lambda script: subprocess.run(["sh", "-c", f"echo $$ > {name}.pid; {script}".replace("NAME", name)], check=True)
-"""
-TOO_MUCH = "it used more seconds of processor than its budget"
-# The planted tests: a mark, the body, how it ends at the first try, and a part of the words about it.
-PLANTED = {
-    "passes": ("", 'sh("echo all is well")', "passed", ""),
-    "waits": ("@OVER", 'sh("sleep 2")', "passed", ""),
-    "fails": ("", 'sh("exit 7")', "failure", "exit status 7"),
-    "exits": ("", 'raise SystemExit("no more of it")', "failure", "no more of it"),
-    "lacks": ("@NEEDS", 'sh("exit 1")', "skipped", "missing: nothing-of-this-name"),
-    "lacks_within": ("", 'need("nothing-of-that-name", "nothing")', "skipped", "missing: nothing-of-that-name. Get it: apt-get install nothing"),
-    "burns": ("@OVER", "sh(BURN)", "failure", TOO_MUCH),
-    "lets_burn": ("@OVER", """sh(f"sh -c '{BURN}' & wait")""", "failure", TOO_MUCH),
-    "burns_apart": ("@OVER", """sh(f"setsid sh -c '{BURN}' & echo $! > NAME.pid; wait")""", "failure", TOO_MUCH),
-    "leaves_a_process": ("@OVER", """sh(f"setsid sh -c '{BURN}' & echo $! > NAME.pid")""", "passed", ""),
-    "burns_less": ("", 'sh("i=0; while [ $i -lt 100000 ]; do i=$((i+1)); done")', "passed", ""),
-    "hangs": ("@ENDS", 'sh("sleep 600")', "failure", "Timeout >3.0s"),
-    "fails_once": ("", 'sh("[ -e NAME.once ] || { touch NAME.once; exit 1; }")', "failure", "exit status 1"),
-}
-
-
-def lay(folder):
-    """A checkout that has the planted tests alone."""
+def check(folder, *words, program="/bin/true", **more):
+    """The status of tools/check in a checkout that has the planted tests alone, and its lines."""
     copy_into(folder, "tools/check", "tests/conftest.py", "pyproject.toml", "office_kit")
-    tests = [f"\n\n{mark}\ndef test_{name}(sh):\n    {body}\n" for name, (mark, body, *_) in PLANTED.items()]
-    (folder / "tests" / "test_planted.py").write_text(HEAD + "".join(tests))
+    for name, text in {"test_planted.py": PLANTED, "audit/test_mirror.py": LIBREOFFICE, "test_late.py": LATE}.items():
+        (folder / "tests" / name).parent.mkdir(exist_ok=True)
+        (folder / "tests" / name).write_text(text)
+    own = {name: value for name, value in os.environ.items() if name != "CI" and not name.startswith("PYTEST_")}
+    status, said = ended(["tools/check", *words], cwd=folder, env={**own, **more, "PROCURE": program})
+    return status, said.rstrip("\n").split("\n")
 
 
-def check(folder, *words, program="/bin/true"):
-    """The status of tools/check there, and its output."""
-    own = {name: value for name, value in os.environ.items() if not name.startswith("PYTEST_")}
-    return ended(["tools/check", *words], cwd=folder, env={**own, "PROCURE": program, "SLOWNESS": "1"})
+def test_counts(tmp_path):
+    """Skipped tests are no failures on a developer's machine, and the last line has their number."""
+    status, lines = check(tmp_path, "--jobs", "2", LATE="yes")
+    assert (status, lines[-1]) == (1, "1 passed, 2 failed, 4 skipped"), lines
+    said = "\n".join(lines)
+    assert "Timeout >3.0s" in said and "missing: nothing-of-this-name. Get it: docs/CHANGING.md" in said and "apt-get install nothing" in said
+    assert not os.path.exists(f"/proc/{(tmp_path / 'left.pid').read_text().strip()}")
 
 
-@pytest.fixture(scope="module")
-def checked(tmp_path_factory):
-    """A folder, the status and the output of tools/check over all planted tests, and the results of the first try."""
-    lay(folder := tmp_path_factory.mktemp("check"))
-    status, said = check(folder, "--jobs", "2")
-    cases = xml.etree.ElementTree.parse(folder / "build" / "check.xml").iter("testcase")
-    return folder, status, said, {case.get("name").removeprefix("test_").partition("@")[0]: case for case in cases}
-
-
-@pytest.mark.parametrize("name", PLANTED)
-def test_result(checked, name):
-    *_, kind, words = PLANTED[name]
-    found = [(it.tag, it.get("message") + (it.text or "")) for it in checked[3][name] if it.tag in ("failure", "error", "skipped")]
-    assert [tag for tag, _ in found] == ([] if kind == "passed" else [kind])
-    assert all(words in said for _, said in found)
-
-
-def test_counts(checked):
-    _, status, said, _ = checked
-    assert status == 1
-    assert "\n4 passed, 7 failed, 2 not run, by " in said and "\n5 passed, 6 failed, 2 not run, by " in said
-    assert "; 1 of them passed at a second try\n" in said
-
-
-def runs(pid):
-    """Whether a process still runs a while after it was killed. One that has ended may remain in the list of processes until it is waited for."""
-    for _ in range(50):
-        found = all_processes().get(pid)
-        if not found or found.state == "Z":
-            return False
-        time.sleep(0.1)
-    return True
-
-
-def test_nothing_runs_on(checked):
-    found = [path.name for path in checked[0].glob("*.pid") if runs(int(path.read_text()))]
-    assert found == [] and len(list(checked[0].glob("*.pid"))) >= 10
+@pytest.mark.parametrize("word, more, status, last", [
+    ("passes", {}, 0, "1 passed, 0 failed, 0 skipped"), ("skips", {}, 1, "0 passed, 2 failed, 0 skipped"),
+    ("libreoffice", {}, 0, "0 passed, 0 failed, 1 skipped"), ("passes", {"LATE": "yes"}, 1, "1 passed, 1 failed, 0 skipped"),
+], ids=["passed", "skipped", "skipped_with_a_reason", "a_module"])
+def test_ci(tmp_path, word, more, status, last):
+    got, lines = check(tmp_path, word, CI="true", **more)
+    assert (got, lines[-1]) == (status, last), lines
 
 
 @pytest.mark.parametrize("status, words, program", [
-    (0, ["passes", "waits"], "/bin/true"),
-    (1, ["fails"], "/bin/true"),
-    (2, ["nothing_like_it"], "/bin/true"),
-    (2, ["--what"], "/bin/true"),
-    (2, ["passes"], "/nowhere/procure"),
-    (0, ["--help"], "/nowhere/procure"),
+    (0, ["passes"], "/bin/true"), (1, ["fails"], "/bin/true"), (2, ["nothing_like_it"], "/bin/true"), (2, ["--what"], "/bin/true"),
+    (2, ["passes"], "/nowhere/procure"), (0, ["--help"], "/nowhere/procure"),
 ], ids=["passed", "failed", "no_such_test", "no_such_option", "no_program", "help"])
 def test_status(tmp_path, status, words, program):
-    lay(tmp_path)
-    got, said = check(tmp_path, *words, program=program)
-    assert got == status, said
+    got, lines = check(tmp_path, *words, program=program)
+    assert got == status, lines
+
+
+@pytest.mark.parametrize("missing, status", [("", 0), ("curl", 1)], ids=["all_tools", "no_curl"])
+def test_ci_run(tmp_path, missing, status):
+    """`.ci/run` doesn't begin the gate while a tool is missing, and then ends with another status than 0. apt-get gets nothing here."""
+    copy_into(tmp_path, ".ci/run", "tools/check", "office_kit")
+    (tmp_path / "Makefile").write_text("test:\n\ttouch gate\ncheck:\n\ttest $(CI) = true\n")
+    (tmp_path / "bin").mkdir()
+    for tool in {"sh", "env", "python3", "make", "df", "touch", "test", "id", "dirname", *TOOLS} - {missing}:
+        if place := sys.executable if tool == "python3" else place_of(tool):
+            (tmp_path / "bin" / tool).symlink_to(place)
+    stand_in(str(tmp_path / "bin" / "apt-get"), "exit 1")
+    got, said = ended([".ci/run"], cwd=tmp_path, env={"PATH": str(tmp_path / "bin"), "HOME": os.environ["HOME"]})
+    assert (got, (tmp_path / "gate").exists()) == (status, not status), said
+    assert not missing or f"the gate wasn't begun: make check still misses {missing}" in said

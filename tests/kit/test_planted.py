@@ -1,98 +1,97 @@
-"""The checks of the repository, and the scripts that make documents and drawings of it, find what is planted (planted.toml).
-
-Each runs in a folder: with files that are written for it, or else with a copy of the sources, scripts and documents. There it must first find nothing wrong.
-Then a file is changed in one place, or taken away. The script must end with the status that is written there (2 if a source can't be read, 3 if a tool is
-missing), and name the change. `tools/calls` and `tools/index` compare nothing: the change must be in the document that they write.
+"""The checks of the repository find what is planted: one run of each over a copy of the sources, scripts and documents, in which some files were changed. Each
+must end with status 1 and name all changes. (That they find nothing in the repository itself is in test_scripts.py.)
 """
-import functools
 import os
 import sys
-import tomllib
-from pathlib import Path
 
 import pytest
 
 from office_kit.common import ROOT, copy_into, ended
 from office_kit.gate.wrong_bodies import came_to
 
-pytestmark = pytest.mark.budget(400)
-COMMANDS = {"calls": "tools/calls", "index": "tools/index", "names": "tools/check_names", "pictures": "tools/pictures --check",
-            "promises": "tools/check_promises", "reading": "tools/reading --check", "words": "tools/check_words", "crates": "tools/check_crates",
-            "lengths": "tools/check_lengths", "gate": "bench/gate --table --check", "docs": "tools/check_docs", "lint": "tools/lint --in ."}
-# Scripts that write a document each time, and the document.
-WRITTEN = {"calls": "build/docs/CALLS.md", "index": "build/docs/INDEX.md"}
-# The words of some scripts that find nothing.
-RIGHT = {"docs": "2 blocks ran in 1 documents, 2 outputs as shown; 4 links of 3 documents; wrong: 0",
-         "lint": "2 files of Python, 2 of the shell: no findings"}
-MARKS = {"lint": [pytest.mark.needs("pyflakes3", "pycodestyle", "vulture", "codespell", "shellcheck", "mypy")]}
-# The files and folders of the repository in the folder of a script.
-COPIED = {"docs": ["tools/check_docs", "tools/office_kit.py", "office_kit"],
-          "lint": ["pyproject.toml"],
-          "copy": ["tools", "office_kit", "docs", "bench", "tests", "deploy", "edits", "web", "crates",
-                   "crates.txt", "README.md", "Makefile", "pyproject.toml"]}
-SAID, FILES, CHANGES = tomllib.loads(Path(__file__).with_name("planted.toml").read_text(encoding="utf-8")).values()
+# A clock that isn't one: a second meaning of `weight_of`, and a definition that READING.md doesn't have.
+MACHINE, TIME = "crates/office_machine/specs/Machine.antt", "time_of x = max x.moment x.before.clock.moment"
+WEIGHT = "time_of x = max x.moment (weight_of x)\n\n-- where its clock stands\nabbrev pub weight_of : Given → ℕ\nweight_of x = x.before.clock.moment"
+LONG = "x" * 161
+# The scripts, each with the changes that it must find at once: a file, a text there, the one that replaces it, and words that the script must print.
+PLANTED = {
+    "check_names": [(MACHINE, TIME, WEIGHT, "weight_of has 2 meanings: office_commands Notices, office_machine Machine")],
+    "reading --check": [(MACHINE, "-- The ", "-- Perhaps the ", "Perhaps the ")],
+    "pictures --check": [
+        ("docs/pictures/states.dot", 'security_Held -> security_Returned [label="cancel"]', 'security_Held -> security_Returned [label="open"]',
+         "the specification has no arrow security: Held -> Returned by open"),
+        ("crates/award_core/specs/Rules/Fail.antt", "lot_states.Undecided", "lot_states.Cancelled", "lot: Awarded -> Cancelled by fail"),
+        ("crates.txt", "award_core: office_base", "award_core: keyed_table office_base", "docs/pictures/crates.dot: not what is made"),
+        ("docs/pictures/system.svg", "nginx:", "a front:", "docs/pictures/system.svg: changed by hand")],
+    "check_words": [("docs/STYLE.md", "# Style\n", "# Style\n\nIt stands behind it. Who has it may go.\n", "docs/STYLE.md has "),
+                    ("crates/office_values/src/id.rt", "//! ", "//! They stand here, as wanted. ", "crates/office_values/src has ")],
+    "check_promises": [
+        ("docs/PROMISES.md", "appropriation line t ≡ free line t", "appropriation line t ≡ paid line t", "specs/Accounts.antt doesn't have this text"),
+        ("crates/office_http/src/office.rt", "ensures ran { HasRun H.meaning", "ensures ran { IsServed H.meaning", "the contract of run"),
+        ("docs/PROMISES.md", "In the program: proved like the accounts", "Proved like the accounts", "this promise has no line"),
+        ("docs/PROMISES.md", "(clauses `kept`, `joins`)", "(clauses `kept`, `Joinses`)", "no source has the name Joinses")],
+    "check_crates": [
+        ("crates/office_values/README.md", "`src/money.rt`", "`src/moneys.rt`", "names src/moneys.rt, which isn't there"),
+        ("crates/office_desk/README.md", "`tests_of_faults`", "faults", "tests_of_faults is above it, by crates.txt"),
+        ("docs/ARCHITECTURE.md", "| the office in memory | keyed_table |", "| the office in memory | values |", "must name keyed_table, by crates.txt"),
+        ("docs/CHANGING.md", "`Commands.rule_of`", "one more", "Commands.rule_of has an arm for each command"),
+        ("edits/office_sums/applies_and_carries_nothing.edit", "old: ", "old: x", "applies_and_carries_nothing.edit: ")],
+    "check_lengths": [("docs/STYLE.md", "# Style\n", f"# Style\n{LONG}\n" + "more\n" * 3000, "docs/STYLE.md has"),
+                      ("README.md", "```sh run\n", f"```sh run\n{LONG}\n", "has 161 characters, and may have 100")],
+    "check_docs docs/CHANGING.md": [
+        ("docs/CHANGING.md", "# ", "# A\n\n```sh run\necho 4\n```\n\n```text\n5\n```\n\n# ", "the block prints something else"),
+        ("docs/STYLE.md", "# Style", "# Style\n\n[a](no_file) [b](#nowhere)\n", "the link to no_file: there is no docs/no_file in the repository"),
+        ("docs/AUDITOR.md", "# ", "# [b](STYLE.md#nowhere) ", "docs/STYLE.md has no heading of that anchor"),
+        ("docs/CLERK.md", "**", "**Nothing of this name**, **", "**Nothing of this name** is no text of web/clerk/en*.js")],
+}
+# Faults for tools/lint, in a folder of their own. In Python: an import and a function that nothing uses, a misspelled word, a long function and a long line. In
+# the shell: words that are parted again, and a long line. A function without types, and a scaffold with too many lines.
+BODY = "    print(number)\n" * 40
+SCRIPTS = {"tool.py": f"import sys\n\n\ndef idle(number):\n    # It is {'rec'}ieved.\n{BODY}\n\nprint('{LONG}')\n",
+           "run.sh": f"#!/bin/sh\nls $2\n# {LONG}\n", "office_kit/shared.py": "def twice(number):\n    return 2 * number\n\n\nprint(twice(2))\n",
+           "tests/rows.txt": "row\n" * 29_500}
+FOUND = ("'sys' imported but unused", "E501 line too long", "unused function 'idle'", " ==> received", "idle has 42 lines, more than 40", "SC2086",
+         "run.sh:3: 163 characters, more than 160", "missing a type annotation", "the scaffold has 29,505 lines, more than 29,500")
+# Lines of rt, and the crate, the mutant and the result in them.
+SAID = [("refused, as it must be: src/pay.rt:40:9: error", "refused"), ("refused, as it must be (only because a proof file", "only by a proof's names"),
+        ("refused, as it must be (only by a limit of the prover", "only by a limit"), ("NOT REFUSED", "NOT REFUSED"),
+        ("refused, as it must be: note: src/pay.rt:40:9: the borrow checker does not cover `pays` yet", "REFUSED BY NO GOAL")]
 
 
 @pytest.fixture(scope="module")
-def folder_of(tmp_path_factory):
-    """The folder of a script."""
-    @functools.cache
-    def made(name):
-        folder = tmp_path_factory.mktemp(name)
-        copy_into(folder, *COPIED[name])
-        for place, text in FILES.get(name, {}).items():
-            (folder / place).parent.mkdir(parents=True, exist_ok=True)
-            (folder / place).write_text(text, encoding="utf-8")
-            (folder / place).chmod(0o755)
-        return folder
-    return lambda script: made(script if script in FILES else "copy")
+def folder(tmp_path_factory):
+    """A copy of the files that the checks read."""
+    made = tmp_path_factory.mktemp("copy")
+    copy_into(made, *"tools office_kit docs bench tests deploy edits web crates crates.txt README.md Makefile pyproject.toml".split())
+    return made
 
 
-def run(folder, script):
-    """The status of a script in the folder, and its output, or the document that it wrote. (tools/check_docs finds no tools but those in bin/.)"""
-    name, *words = COMMANDS[script].split()
-    places = {"PATH": f"{folder}/bin", "PROCURE": f"{folder}/bin/stand-in"} if script == "docs" else {}
-    command = [sys.executable, os.path.join(ROOT if script == "lint" else folder, name), *words]
-    status, said = ended(command, cwd=folder, env={**os.environ, **places})
-    return status, said if script not in WRITTEN or status else (folder / WRITTEN[script]).read_text(encoding="utf-8")
-
-
-@pytest.fixture(scope="module")
-def before(folder_of):
-    """The status and the words of a script before a change."""
-    return functools.cache(lambda script: run(folder_of(script), script))
-
-
-def case(script, *change, name=""):
-    return pytest.param(script, *change, id=script + name, marks=[pytest.mark.xdist_group(f"planted-{script}"), *MARKS.get(script, ())])
-
-
-@pytest.mark.parametrize("script", map(case, COMMANDS))
-def test_nothing_is_changed(before, script):
-    status, told = before(script)
-    assert status == 0 and RIGHT.get(script, "") in told, told
-
-
-@pytest.mark.parametrize("script, change", [case(script, change, name=f"-{number:02}")
-                                            for script, changes in CHANGES.items() for number, change in enumerate(changes)])
-def test_change(folder_of, before, script, change):
-    name, old, new, status, said, *times = change
-    path, unchanged = folder_of(script) / name, before(script)[1]
-    text = path.read_text(encoding="utf-8")
-    assert old in text, "it no longer has this text, which was to be changed"
-    if new is False:
-        path.unlink()
-    else:
-        path.write_text(text.replace(old, new * times[0] if times else new, 1), encoding="utf-8")
+@pytest.mark.parametrize("script", PLANTED)
+def test_planted(folder, script):
+    texts = {folder / name: (folder / name).read_text(encoding="utf-8") for name, *_ in PLANTED[script]}
+    for name, old, new, _ in PLANTED[script]:
+        text = (folder / name).read_text(encoding="utf-8")
+        assert old in text, f"{name} no longer has the text that was to be changed: {old}"
+        (folder / name).write_text(text.replace(old, new, 1), encoding="utf-8")
     try:
-        had, told = run(folder_of(script), script)
+        status, said = ended([sys.executable, *f"tools/{script}".split()], cwd=folder, env={**os.environ, "PROCURE": "/bin/true"})
     finally:
-        path.write_text(text, encoding="utf-8")
-    assert had == status and said in told, told
-    assert said not in unchanged
+        for path, text in texts.items():
+            path.write_text(text, encoding="utf-8")
+    assert status == 1 and [words for *_, words in PLANTED[script] if words not in said] == [], said
 
 
-@pytest.mark.parametrize("line, read", SAID, ids=range(len(SAID)))
-def test_line_of_rt(line, read):
+@pytest.mark.needs("pyflakes3", "pycodestyle", "vulture", "codespell", "shellcheck", "mypy")
+def test_lint(tmp_path):
+    copy_into(tmp_path, "pyproject.toml")
+    for name, text in SCRIPTS.items():
+        (tmp_path / name).parent.mkdir(exist_ok=True)
+        (tmp_path / name).write_text(text)
+    status, said = ended([f"{ROOT}/tools/lint", "--in", "."], cwd=tmp_path)
+    assert status == 1 and [words for words in FOUND if words not in said] == [], said
+
+
+@pytest.mark.parametrize("words, kind", SAID, ids=range(len(SAID)))
+def test_line_of_rt(words, kind):
     """As bench/gate and tools/edits read it: the crate, the mutant, and the result."""
-    assert came_to(line) == (tuple(read) or None)
+    assert came_to(f"rt: must-fail award_core/pays.edit: {words}") == ("award_core", "pays.edit", kind)

@@ -9,7 +9,7 @@ from pathlib import Path
 
 import pytest
 
-from office_kit.common import ROOT, planted, stand_in
+from office_kit.common import ROOT, stand_in
 
 pytestmark = pytest.mark.xdist_group("machine")
 LEDGER = "LEDGER\\nline\\tappropriation\\tfree\\treserved\\tcontracted\\tpaid\\n"
@@ -36,18 +36,16 @@ for _ in range(int(sys.argv[2])):
 """
 PYTHON = os.path.realpath(sys.executable)
 LOADER = "/lib64/ld-linux-x86-64.so.2"
-# The words by which tools/try finds the program's file.
-OWN_FILE = "own = [path for path in paths if not "
 
 
-def run(folder, answer=LEDGER, failing="", server=SERVER, rt="bin/rt", loader="", script=f"{ROOT}/tools/try"):
+def run(folder, answer=LEDGER, failing="", server=SERVER, rt="bin/rt", loader=""):
     """`tools/try` by a toolchain in this folder."""
     program = RT.format(python=PYTHON, home=sys.base_prefix, failing=failing, loader=loader, server=server.replace("LEDGER", answer))
     for name, text in (("bin/rt", program), ("toolchain/bin/clang", 'printf "%s;" "$@"')):
         (folder / name).parent.mkdir(parents=True)
         stand_in(str(folder / name), text)
     environment = {**os.environ, "RT": f"{folder}/{rt}", "ASKED": f"{folder}/asked", "PYTHONPATH": ROOT}
-    return subprocess.run([sys.executable, script, "--to", folder / "to" / "procure"], capture_output=True, text=True, env=environment)
+    return subprocess.run([sys.executable, f"{ROOT}/tools/try", "--to", folder / "to" / "procure"], capture_output=True, text=True, env=environment)
 
 
 def is_program(folder):
@@ -65,15 +63,8 @@ def test_program_is_left(tmp_path, loader):
     assert (tmp_path / "asked").read_bytes() == b"-c;-O1;a b;"
 
 
-@pytest.mark.parametrize("words", [f"own = [] and {OWN_FILE[6:]}", OWN_FILE.removesuffix("not ")], ids=["the_loader", "a_shared_object"])
-def test_another_file_is_seen(tmp_path, words):
-    """A tools/try that takes another file for the program leaves it."""
-    told = run(tmp_path, loader=LOADER, script=planted(f"{ROOT}/tools/try", tmp_path, OWN_FILE, words))
-    assert told.returncode == 0 and not is_program(tmp_path), told
-
-
-@pytest.mark.parametrize("fault, status", [({"failing": "exit 4"}, 1), ({"server": "pass"}, 1), ({"answer": "<html>"}, 1), ({"rt": "bin/absent"}, 3)],
-                         ids=["toolchain_fails", "program_ends", "another_answer", "no_toolchain"])
+@pytest.mark.parametrize("fault, status", [({"failing": "exit 4"}, 1), ({"answer": "<html>"}, 1), ({"rt": "bin/absent"}, 3)],
+                         ids=["toolchain_fails", "another_answer", "no_toolchain"])
 def test_fault(tmp_path, fault, status):
     """The old file stays."""
     (tmp_path / "to").mkdir()

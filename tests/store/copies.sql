@@ -7,7 +7,6 @@ CREATE TEMP TABLE copies AS WITH RECURSIVE number(n) AS (SELECT 1 UNION ALL SELE
     SELECT 'K' || n AS copy FROM number;
 INSERT INTO notices SELECT copy, title, published, deadline, validity, standstill, weight, state, opened, amendments, releases
     FROM copies, notices WHERE notice = 'N2';
-
 -- procurements
 CREATE TEMP TABLE copies AS WITH RECURSIVE number(n) AS (SELECT 1 UNION ALL SELECT n + 1 FROM number WHERE n < MANY)
     SELECT n + 1 AS later, 3 * n + 4 AS behind, 'K' || n AS copy, '"' || (n + 6) || '"' AS contract_id FROM number;

@@ -13,7 +13,7 @@ from office_kit.store import pages
 from office_kit.store.files import VERSION_1, sqlite
 from office_kit.store.served import served
 
-pytestmark = [pytest.mark.needs("sqlite3"), pytest.mark.budget(120)]
+pytestmark = pytest.mark.needs("sqlite3")
 SCRIPT = os.path.join(ROOT, "deploy", "backup.sh")
 LINES = 300
 

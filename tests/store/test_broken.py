@@ -19,7 +19,7 @@ from office_kit.store.broken_trials import ANEW, COMMANDS, MAY, MOVES, BrokenLif
 from office_kit.store.files import dump, printed, scripts_of, sqlite, sums_in, wrong
 from office_kit.store.served import Serving, server
 
-pytestmark = [pytest.mark.needs("sqlite3"), pytest.mark.time, pytest.mark.budget(180)]
+pytestmark = [pytest.mark.needs("sqlite3"), pytest.mark.time]
 AUDIT = os.path.join(ROOT, "tools", "audit")
 LISTENS, UNAVAILABLE = 300, "Unavailable"
 TRIALS = {trial.name: trial for trial in trials()}
@@ -156,7 +156,7 @@ def test_what_is_refused(whole, test, change, count, tmp_path):
 
 # ---- Planted faults.
 
-WHOLE, SIGN = 'cp WHOLE "$3"; exec PROGRAM "$@"', TRIALS["sign, its lot"]
+WHOLE, SIGN = 'cp WHOLE "$3"; exec PROGRAM "$@"', TRIALS["sign, no row in lots"]
 # Stand-ins for the program: the work of each on a file, $3, and the test that must find it. This test gets a trial or a change, and must say the words.
 WRONG = {
     "the whole file is served": (WHOLE, try_trial, SIGN, "accepted"),

@@ -1,6 +1,5 @@
-"""The client that tests and measures share (office_kit/client.py): its routes, its transports, refusals, and how it waits. Planted faults are found."""
+"""The client that tests and measures share (office_kit/client.py): its routes, by docs/API.md, refusals, and how it waits."""
 import itertools
-import re
 import socket
 import threading
 import time
@@ -8,12 +7,11 @@ import time
 import pytest
 
 from office_kit import client
-from office_kit.client import Answer, Blocks, Client, Front, Port, Requests, budget, lot, notice, tender
+from office_kit.client import Client, Front, Port, Requests, budget
 from office_kit.common import FIELDS, HOST
 from office_kit.front.checks import routes
 from office_kit.front.office import StandIn
 
-MOMENT = re.compile(rb"\d{4}-\d\d-\d\dT\d\d:\d\d:\d\dZ")
 DEADLINE = "2099-03-01T12:00:00Z"
 # The arguments of each method.
 GIVEN = {"import_budget": ("B1", budget()), "register": ("T1",), "publish": ("N1", {}), "amend_notice": ("N1", DEADLINE), "cancel": ("N1",), "open": ("N1",),
@@ -46,12 +44,6 @@ def test_each_route_is_asked():
     assert {asked(name)[0] for name in METHODS} == CALLERS.keys()
 
 
-def life(office):
-    return [office.import_budget("B1", budget("1000,add,1000,Roads")), office.register("T1"), office.publish("N1", notice(DEADLINE, lot(security=50))),
-            office.present("T1", "N1", "L1", tender((3, 190)), "G1", 50), office.modify("T1", 1, tender((3, 180))), office.tender("T1", 2),
-            office.tender("T1", 1), office.open("N1"), office.security("clerk", 1), office.line("1000"), office.ledger(), office.record("N1")]
-
-
 class Relay(StandIn):
     """A front that passes requests on to the office at a port, or first answers 429 some times. It keeps the moments of all requests, as they come."""
 
@@ -66,31 +58,6 @@ class Relay(StandIn):
         caller = tuple(request.head.get(name.decode(), "").encode() for name in FIELDS)
         answer = self.office.send(request.method, request.path, request.body, caller if any(caller) else None)
         return answer.status, answer.body, {}
-
-
-def plain(answers):
-    return [(answer.status, MOMENT.sub(b"MOMENT", answer.body)) for answer in answers]
-
-
-@pytest.fixture(scope="module")
-def of_blocks(program):
-    """The answers of `procure desk` to the life. (Those to another life are others.)"""
-    blocks = Blocks("2026-02-02T10:00:00Z")
-    life(Client(blocks))
-    answers = plain(blocks.answers(program))
-    assert [status for status, _ in answers].count(200) == 11 and answers[7][0] == 409
-    blocks.sent[2] = blocks.sent[1]
-    assert plain(blocks.answers(program)) != answers
-    return answers
-
-
-def test_a_port_answers_as_blocks(serving, of_blocks):
-    assert plain(life(Client(Port(serving().port, strict=False)))) == of_blocks
-
-
-def test_a_front_answers_as_blocks(serving, of_blocks):
-    with Relay(serving().port) as front:
-        assert plain(life(Client(Front(front.address, strict=False)))) == of_blocks
 
 
 def test_a_refusal_ends_the_test(office):
@@ -120,25 +87,3 @@ def test_it_gives_up_after_429(office):
     with Relay(office.port, times=1000, wait="0") as front, pytest.raises(SystemExit, match=f"GET /ledger: 429, {client.TRIES} times"):
         Client(Front(front.address)).ledger()
     assert len(front.came) == 60
-
-
-ASK, EXCHANGE = Front.ask, Port.exchange
-
-
-@pytest.mark.parametrize("test, given, thing, name, instead", [
-    (test_route, ["open"], Client, "open", lambda self, name: self.clerk(f"/notices/{name}/close")),
-    (test_route, ["line"], Client, "line", lambda self, line: self.query("clerk", f"/lines/{line}")),
-    (test_route, ["ledger"], Client, "ledger", lambda self: self.command("clerk", "/ledger")),
-    (test_each_route_is_asked, [], Client, "record", Client.releases),
-    (test_a_front_answers_as_blocks, ["serving", "of_blocks"], Front, "ask", lambda self, *words: ASK(self, *words[:-1], None)),
-    (test_a_port_answers_as_blocks, ["serving", "of_blocks"], Port, "exchange", lambda self, *words: EXCHANGE(self, *words[:2], words[2][:-1], words[3])),
-    (test_a_refusal_ends_the_test, ["office"], client.Asking, "send", lambda self, *words: self.exchange(*words)),
-    (test_a_refusal_ends_the_test, ["office"], client, "answer_of", lambda *_: Answer(200, {}, b"{}")),
-    (test_it_waits_after_429, ["office"], client.time, "sleep", lambda _: None),
-    (test_it_gives_up_after_429, ["office"], client, "TRIES", 2),
-])
-def test_planted_fault(request, monkeypatch, test, given, thing, name, instead):
-    words = [request.getfixturevalue(it) if it in ("serving", "office", "of_blocks") else it for it in given]
-    monkeypatch.setattr(thing, name, instead)
-    with pytest.raises((AssertionError, SystemExit, KeyError, pytest.fail.Exception)):
-        test(*words)

@@ -26,7 +26,7 @@ from office_kit.store import fault_plays, pages
 from office_kit.store.files import ledger_of, rows_of, unlike
 from office_kit.store.served import MANY, server
 
-pytestmark = [pytest.mark.needs("cc"), pytest.mark.budget(120)]
+pytestmark = pytest.mark.needs("cc")
 # The second of each day, and its request: first that of the ledger, and then one command a day.
 LEDGER = look(b"/ledger")
 LIFE = [(fault_plays.BEGUN, LEDGER), *((step.second, step.text) for step in fault_plays.life().steps)]

@@ -51,6 +51,7 @@ class Trial:
     def __init__(self, program, folder, script=CHECK):
         self.program, self.folder, self.script = program, folder, script
         self.file, self.copies, self.config, self.told, self.opener = (folder / name for name in ("office.db", "copies", "office.toml", "told", "opens"))
+        self.front, self.nginx, self.earlier = (folder / name for name in ("front", "nginx", "before-0.5.0"))
         self.copies.mkdir(parents=True)
         self.set(*line_of("extensions", [LOTS]))
 
@@ -61,9 +62,11 @@ class Trial:
 
     def run(self, *words):
         """The status of the script, which runs in this process, and its output."""
-        places = {"--config": self.config, "--file": self.file, "--copies": self.copies, "--program": self.opener}
+        places = {"--config": self.config, "--file": self.file, "--copies": self.copies, "--program": self.opener, "--front": self.front, "--nginx": self.nginx,
+                  "--earlier": self.earlier}
         line, said = [self.script, *(f"{name}={place}" for name, place in places.items()), *map(str, words)], io.StringIO()
-        with mock.patch.object(sys, "argv", line), contextlib.redirect_stdout(said), contextlib.redirect_stderr(said), pytest.raises(SystemExit) as end:
+        path = mock.patch.dict(os.environ, PATH=f"{self.folder}:{os.environ['PATH']}")
+        with path, mock.patch.object(sys, "argv", line), contextlib.redirect_stdout(said), contextlib.redirect_stderr(said), pytest.raises(SystemExit) as end:
             runpy.run_path(self.script, run_name="__main__")
         return end.value.code or 0, said.getvalue()
 
@@ -93,6 +96,10 @@ class Trial:
     def opens(self, text, status=0):
         """The stand-in for `procure ledger` prints this, and ends with this status."""
         stand_in(str(self.opener), f"echo '{text}'\nexit {status}")
+
+    def systemd(self, text):
+        """The stand-in for `systemctl show` prints this."""
+        stand_in(str(self.folder / "systemctl"), f"cat <<'END'\n{text}\nEND")
 
 
 @pytest.fixture
@@ -178,17 +185,83 @@ def test_before_start(trial):
 
 def test_room(trial):
     """Less than the required space is a warning, and less than half of it is critical. Before the start neither prevents the start. A file that is nearly as
-    large as the bound of memory is a warning, and the check knows the bound of procure.service."""
+    large as the bound of memory is a warning. systemd knows that bound, unless an option says it."""
     free = shutil.disk_usage(trial.folder).free // 1_000_000
     for wanted, status in ((1, OK), (free * 5 // 4, WARNING), (free * 3, CRITICAL)):
         trial.says(status, "MB", "room", "--room", wanted)
         trial.says(OK, "", "room", "--before-start", "--room", wanted)
     trial.file.write_bytes(bytes(8_100_000))
     for memory, status in ((10, WARNING), (11, OK)):
-        trial.says(status, "raise LimitAS" if status else "MB free", "room", "--room", "1", "--memory", memory)
-    bound = int(re.search(r"\nLimitAS=(\d+)G\n", UNITS["procure.service"])[1])
-    known = int(re.search(r'"--memory", type=int, default=(\d+)', Path(CHECK).read_text(encoding="utf-8"))[1])
-    assert known == bound * 1024 ** 3 // 1_000_000
+        for words, bound in (((), f"{memory}000000"), (("--memory", memory), "1"), ((), "infinity") if memory == 11 else (("--memory", memory), "infinity")):
+            trial.systemd(bound)
+            trial.says(status, "raise LimitAS" if status else "MB free", "room", "--room", "1", *words)
+
+
+def test_sync(trial):
+    """A disk that takes long for a sync is a warning, and it says how long sixty tenders take. Nothing is left on it."""
+    before = trial.content()
+    said = "60 tenders at once take {} seconds{}"
+    for took, status, told in ((0, OK, said.format(r"0\.\d", "$")), (0.02, WARNING, said.format(r"[1-9]\.\d", r"\. Use a faster"))):
+        with mock.patch("os.fsync", lambda _, took=took: time.sleep(took)):
+            trial.says(status, f"(?m){told}", "sync")
+    trial.says(OK, "", "sync", "--sync", "100000")
+    assert trial.content() == before
+    trial.says(WARNING, "can't be measured", "sync", "--file", trial.folder / "absent/office.db")
+
+
+def test_timers(trial):
+    """A timer that is neither enabled nor masked is a warning, each on the machine that needs it."""
+    for follows, serves, off, found in (("disabled", "enabled", "", ""), ("disabled", "enabled", "clock mirror", "clock mirror"),
+                                        ("disabled", "disabled", "mirror standby", "mirror"), ("enabled", "disabled", "mirror", ""),
+                                        ("enabled", "disabled", "mirror standby", "standby"), ("enabled", "enabled", "mirror notify", "mirror"),
+                                        ("disabled", "enabled", "mirror notify mails", "mirror notify")):
+        states = {f"{name}.timer": "enabled" if name not in off else "disabled" for name in ("backup", "check", "clock", "mirror", "standby", "notify")}
+        if "mails" in off:
+            trial.config.with_name("notify.toml").touch()
+        states |= {"backup.timer": "masked", "follow.service": follows}
+        states = {f"procure-{name}": state for name, state in states.items()} | {"procure.service": serves}
+        trial.systemd("\n\n".join(f"Id={name}\nFragmentPath=/lib/x\nUnitFileState={state}" for name, state in states.items()))
+        status, text = trial.run("units")
+        assert status == (WARNING if found else OK) and re.findall(r"procure-(\w+)\.timer isn't", text) == found.split()
+
+
+def test_left(trial):
+    """A unit in /etc that is in place of the package's is a warning, and so is a file that an upgrade left."""
+    trial.says(WARNING, "systemd doesn't run", "units")
+    own = "Id=procure-follow.service\nFragmentPath=/{}/systemd/system/procure-follow.service\nUnitFileState=enabled\n\n"
+    own += "Id=procure-standby.timer\nUnitFileState=masked\n\nId=procure.service\nUnitFileState=disabled"
+    trial.earlier.mkdir()
+    (trial.earlier / "sums").touch()
+    for folder, exists, left, status in (("lib", True, None, OK), ("etc", False, None, OK), ("etc", True, None, WARNING), ("lib", True, "a.timer", WARNING)):
+        trial.systemd(own.format(folder))
+        if left:
+            (trial.earlier / left).touch()
+        with mock.patch("os.path.exists", lambda _, exists=exists: exists):
+            trial.says(status, "all timers" if status == OK else f"{left} is left" if left else "in place of the package's", "units")
+
+
+def test_front(trial):
+    """It is critical if nginx reads a front, and another one runs than that of the package, or none. Without any front that is a warning. So are few
+    connections."""
+    enabled, text = trial.nginx / "conf.d", 'map "" $front_version { default "0.5.0 (ab12)"; }\n'
+    enabled.mkdir(parents=True)
+    trial.front.mkdir()
+    (trial.front / "version.conf").write_text(text, encoding="utf-8")
+    (trial.front / "procure.conf").touch()
+    (trial.nginx / "nginx.conf").write_text("events {\n    worker_connections 4096;\n}\n", encoding="utf-8")
+    trial.says(WARNING, "nginx has no front", "front", "--ways", "http://127.0.0.1:1")
+    for place, is_link in ((enabled / "procure.conf", True), (enabled / "old", False)):
+        place.symlink_to(trial.front / "procure.conf") if is_link else place.write_text("map $http_office_caller $a {}", encoding="utf-8")
+        for status, body, wanted in ((200, b"0.5.0 (ab12)\n", OK), (200, b"0.5.0 (cd34)\n", CRITICAL), (404, b"0.5.0 (ab12)\n", CRITICAL)):
+            with answering(status, body, "/front-version") as address:
+                trial.says(wanted, place.name if wanted else "runs the front of the package", "front", "--ways", address)
+        trial.says(CRITICAL, "Connection refused", "front", "--ways", address)
+        place.unlink()
+    (enabled / "procure.conf").symlink_to(trial.front / "procure.conf")
+    for words, wanted in (("worker_connections 768;", WARNING), ("", WARNING), ("worker_connections 8192;", OK)):
+        (trial.nginx / "nginx.conf").write_text(f"events {{\n    {words}\n}}\n", encoding="utf-8")
+        with answering(200, b"0.5.0 (ab12)\n", "/front-version") as address:
+            trial.says(wanted, "worker_connections .* is (768|512)" if wanted else "", "front", "--ways", address)
 
 
 def test_copy(trial):
@@ -212,10 +285,10 @@ def test_copy(trial):
     assert copy.read_bytes() == before and not list(trial.copies.glob("check-*"))
 
 
-def answering(status, body):
+def answering(status, body, path="/notices?after=" + "z" * 32):
     class Answering(Handler):
         def do_GET(self):
-            self.tell(status if self.path == "/notices?after=" + "z" * 32 else 404, body)
+            self.tell(status if self.path == path else 404, body)
     return answered_by(Answering)
 
 
@@ -322,6 +395,16 @@ def test_programs_of_the_unit(words):
     assert UNITS["procure.service"].count(words) == 1
 
 
+def test_values_of_the_units():
+    """A unit reads each value of /etc/default/procure. As long as it has none there, the unit or its script has the value that is shown."""
+    shown = re.findall(r"(?m)^#([A-Z]+)=(.*)$", Path(ROOT, "deploy", "procure.default").read_text(encoding="utf-8"))
+    texts = {**UNITS, "procure-backup.service": UNITS["procure-backup.service"] + Path(ROOT, "deploy", "backup.sh").read_text(encoding="utf-8")}
+    reading = [text for text in texts.values() if "EnvironmentFile=-/etc/default/procure\n" in text]
+    own = [re.findall(r"(?m)^Environment=([A-Z]+)=(.*)$|\$\{([A-Z]+):-(\w+)\}", text) for text in reading]
+    values = {name or other: value or last for found in own for name, value, other, last in found}
+    assert len(shown) == 6 and {name: value.strip('"') for name, value in shown}.items() <= values.items()
+
+
 @pytest.mark.systemd
 @pytest.mark.needs("systemd-analyze")
 def test_start_without_settings(tmp_path):
@@ -344,7 +427,7 @@ def test_failed_unit(name):
 def test_units(program, tmp_path):
     for name, text in UNITS.items():
         (tmp_path / name).write_text(re.sub(r"/usr/(local/s?bin/procure[a-z-]*|share/procure/tools/mirror)", program, text), encoding="utf-8")
-    assert len(UNITS) == 13 and verified([tmp_path / name for name in UNITS]) == (0, [])
+    assert len(UNITS) == 15 and verified([tmp_path / name for name in UNITS]) == (0, [])
 
 
 @pytest.mark.systemd

@@ -28,7 +28,7 @@ from office_kit.store.faulty_disk import ALL, EVEN, FAILED, FLUSHES, NONE, ODD, 
 from office_kit.store.files import REFUSED, made_line, rows_of
 from office_kit.store.served import server
 
-pytestmark = [pytest.mark.needs("cc"), pytest.mark.budget(150)]
+pytestmark = pytest.mark.needs("cc")
 LISTENS, IDLE = 60, look(b"/lines/none")
 # Things that a server did after a fault.
 LOOKED, WENT_ON = "answered looks, and 503 to commands, and was killed", "did the same command at the next try"

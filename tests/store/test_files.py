@@ -16,12 +16,12 @@ from pathlib import Path
 import pytest
 
 from office_kit.client import budget
-from office_kit.common import CONFIG, free_port, running
+from office_kit.common import CONFIG, busy, free_port, running
 from office_kit.store import pages
 from office_kit.store.files import EMPTY, REFUSED, dump, made_line, scripts_of, sqlite, told, unlike, wrong
 from office_kit.store.served import served
 
-pytestmark = [pytest.mark.needs("sqlite3"), pytest.mark.budget(120)]
+pytestmark = pytest.mark.needs("sqlite3")
 AT_ONCE, LISTENS = 3 * float(os.environ["SLOWNESS"]), 60
 # The bytes of a log's head, of a page's head in it and of the smallest page: a shorter log holds nothing.
 LEAST = 32 + 24 + 512
@@ -61,11 +61,11 @@ class Folder:
     def refused(self, name="office.db", jobs=("serve", "ledger"), why="", **how):
         """These programs refuse the file at once, and nothing changes. A fault is reported with the reason for which they must refuse it."""
         for job in jobs:
-            before, begun = self.found(), time.monotonic()
+            before, slower, begun = self.found(), busy(), time.monotonic()
             ended = self.run(job, name, **how)
             took = time.monotonic() - begun
             assert ended == REFUSED, f"{why}{job} ended with {ended}"
-            assert took < AT_ONCE, f"{why}{job} took {took:.1f} s to refuse"
+            assert took < AT_ONCE * max(slower, busy()), f"{why}{job} took {took:.1f} s to refuse"
             changed = unlike(before, self.found())
             assert not changed, f"{why}{job} changed {changed}"
 
@@ -222,7 +222,7 @@ WRONG = {fault: (test, said, script) for (fault, test, said), script in scripts_
 def test_planted(folder, fault):
     test, said, script = WRONG[fault]
     name, *case = test.split(" ", 1)
-    folder.program = wrong(os.path.dirname(folder.program), script.replace("AT_ONCE", str(AT_ONCE)), folder.program)
+    folder.program = wrong(os.path.dirname(folder.program), script.replace("AT_ONCE", str(10 * AT_ONCE)), folder.program)
     with pytest.raises(AssertionError, match=re.escape(said)):
         globals()[name](folder, *case)
 

@@ -1,6 +1,6 @@
 """Two large files of version 1 open with their content, also after the program is killed while it migrates them to version 2.
 
-SQLite makes the files from tests/version_1/ten.sql and copies.sql. (test_versions.py opens the small ones.) The first has many more notices and nothing else:
+SQLite makes the files of `ten`, of version 1, and copies.sql. (test_versions.py opens the small ones.) The first has many more notices and nothing else:
 the program rewrites notices, so this is the worst case. The second has many more procurements, each from its publication to the end of its contract. The ledger
 is the one that SQLite computes from the rows of the original file. Each row is unchanged, except that notices have an additional 0. A kill leaves version 1 or
 version 2, whole. Each test prints the ratio of the first opening's time to that of the next ones, and its additional memory (`pytest -s`); `make soak` takes
@@ -17,10 +17,9 @@ import pytest
 
 from office_kit.common import CONFIG, peak, running
 from office_kit.store import pages
-from office_kit.store.earlier import in_version_2, made, statements_in, text_of
+from office_kit.store.earlier import first, in_version_2, made, statements_in
 from office_kit.store.files import ledger_of, rows_of, sums_in, unlike
 
-pytestmark = pytest.mark.budget(300)
 # How often a file is opened again, and the seconds between two looks at the memory.
 OPENINGS, LOOK = 5, 0.002
 # The counts of copies, and of those of the long form.
@@ -66,7 +65,7 @@ def killed(program, path, rows, seconds):
 def test_large_file(program, tmp_path, what, size, seed, is_long):
     random.seed(seed)
     path, kills, left = str(tmp_path / "opened.db"), 50 if is_long else 10, []
-    large = made(tmp_path / "large.db", text_of("ten.sql") + statements_in("copies.sql")[what].replace("MANY", str(FILES[what][is_long])), size)
+    large = made(tmp_path / "large.db", first("ten")[0] + statements_in("copies.sql")[what].replace("MANY", str(FILES[what][is_long])), size)
     rows = in_version_2(rows_of(large))
     shutil.copy(large, path)
     longest = measured(program, path, rows)

@@ -21,7 +21,7 @@ from office_kit.store import pages
 from office_kit.store.files import EMPTY, copied, rows_of, sqlite, wrong
 from office_kit.store.served import MANY, server
 
-pytestmark = [pytest.mark.needs("sqlite3"), pytest.mark.budget(90)]
+pytestmark = pytest.mark.needs("sqlite3")
 LINES, LISTENS = 5, 60
 # The kills over one file, and the most seconds before a kill.
 EACH_FILE, LONGEST = 10, 0.4

@@ -19,7 +19,7 @@ from office_kit.store import pages
 from office_kit.store.files import EMPTY, REFUSED, copied, made_line, printed, sqlite, told, wrong
 from office_kit.store.served import served, server
 
-pytestmark = [pytest.mark.needs("sqlite3", "cc"), pytest.mark.budget(100)]
+pytestmark = pytest.mark.needs("sqlite3", "cc")
 LISTENS = 60
 # The page of a new file: the fields of the header and of the page after it, by the format of SQLite's files.
 FIELDS = [line.split("\t") for line in Path(__file__).with_name("first_page.tsv").read_text().splitlines()[1:]]

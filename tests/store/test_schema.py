@@ -29,14 +29,15 @@ def column_of(kind, *words):
     return Column(kind, [value(it) for it in bounds] or ["'any'"], [value(it + step) for it, step in zip(bounds, (-1, 1))], is_null)
 
 
-def table_of(part):
+def table_of(name, key, rest):
     """A table of tables.txt: its name, with its key and its columns in order."""
-    (name, *key), *rows = (line.split() for line in part.splitlines())
-    return name.rstrip(":"), (key, {column: column_of(*words) for column, *words in rows})
+    rows = [cell.split() for cell in rest.replace("\n", " ").split(", ")]
+    return name, (key.split(), {column: column_of(*KINDS.get(kind, kind).split(), *words) for column, kind, *words in rows})
 
 
-_, *TEXTS, INDEXED, SEARCHED = Path(__file__).with_name("tables.txt").read_text(encoding="utf-8").split("\n\n")
-TABLES = dict(map(table_of, TEXTS))
+HEAD, TEXT, INDEXED, SEARCHED = Path(__file__).with_name("tables.txt").read_text(encoding="utf-8").split("\n\n")
+KINDS = dict(re.findall(r"^# (\w+) = (.*)$", HEAD, re.M))
+TABLES = dict(table_of(*it) for it in re.findall(r"^(\w+): (.*)\n((?: +.*(?:\n|$))+)", TEXT, re.M))
 INDEXES = {name: [table, *columns] for name, table, *columns in (line.split() for line in INDEXED.splitlines()[1:])}
 BY_INDEX = {(table, test): by for table, test, by in (line.strip().split(": ") for line in SEARCHED.splitlines()[1:])}
 ROWID, KEY = "INTEGER PRIMARY KEY (rowid=?)", "sqlite_autoindex_{}_1 ({})"

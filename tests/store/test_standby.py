@@ -29,7 +29,7 @@ from office_kit.common import CONFIG, HOST, ROOT, free_port, need, place_of, pla
 from office_kit.store.files import copied, ledger_of
 from office_kit.store.served import server
 
-pytestmark = [pytest.mark.needs("rsync"), pytest.mark.time, pytest.mark.budget(180)]
+pytestmark = [pytest.mark.needs("rsync"), pytest.mark.time]
 SCRIPT, CHECK = (os.path.join(ROOT, "deploy", name) for name in ("follow", "check"))
 FIRMS, LOTS = [f"T{number}" for number in range(1, 41)], [f"L{number}" for number in range(1, 21)]
 # Seconds: which commands may be lost, how long a machine may need, and how long the load runs before the kill.

@@ -1,20 +1,17 @@
 """Files of earlier programs open to their own content, in version 2. Files that can't, or that are no version 2 as they claim, are refused and stay unchanged.
 
-The files are those of tests/version_1, which a program of version 1 made, as `sqlite3 .dump` printed them, with the ledgers that it showed. `running` has one
-contract, raised and paid in part; version_1.db.xz is its file as the program itself left it. `ten` has ten notices: receiving, cancelled, past their deadline,
-opened, awarded, signed, ended; four of them have tenders that were withdrawn late. An older file, of crates/tests_of_stores, has no table of late withdrawals.
-Some have tables of other software beside them (beside.sql).
+The files are those of crates/tests_of_stores. A program of version 1 made them, as `sqlite3 .dump` printed them, with the ledgers that it showed. `running` has
+one contract, raised and paid in part; version_1.db.xz is its file as the program itself left it. `ten` has ten notices: receiving, cancelled, past their
+deadline, opened, awarded, signed, ended; four of them have tenders that were withdrawn late. An older file has no table of late withdrawals. Some have tables
+of other software beside them (beside.sql).
 
 Each row of each table is unchanged, except for notices: they are in `notices_2`, with no performance security required. Queries are answered as tools/audit
 computes it from the rows. If PROCURE_1 names a program of version 1, it must refuse a file that ours migrated.
 """
-import json
 import lzma
 import os
-import re
 import subprocess
 import time
-from pathlib import Path
 
 import pytest
 
@@ -23,22 +20,16 @@ from office_kit.audit.office import Office
 from office_kit.client import Client, Port, data_of
 from office_kit.common import ROOT
 from office_kit.store import pages
-from office_kit.store.earlier import in_version_2, made, statements_in, text_of
+from office_kit.store.earlier import first, in_version_2, made, statements_in, texts_of
 from office_kit.store.files import REFUSED, VERSION_1, dump, ledger_of, printed, rows_of, sqlite, told
 from office_kit.store.life import Life, key_of, offer, part
 from office_kit.store.served import Serving
 
-pytestmark = [pytest.mark.needs("sqlite3"), pytest.mark.time, pytest.mark.budget(90)]
-STORES = Path(ROOT, "crates", "tests_of_stores", "src")
-TEXT = re.compile(r'pub const (\w+): &str =\s*(?:r##"(.*?)"##|("(?:[^"\\]|\\.)*"));', re.S)
+pytestmark = [pytest.mark.needs("sqlite3"), pytest.mark.time]
 EARLIER = os.environ.get("PROCURE_1")
 # Tables of others, and obstacles to version 2.
 BESIDE = statements_in("beside.sql")
 OTHERS, *IN_THE_WAY = BESIDE
-
-
-def texts_of(file):
-    return {name: raw or json.loads(text) for name, raw, text in TEXT.findall((STORES / file).read_text(encoding="utf-8"))}
 
 
 def earliest(more=""):
@@ -51,18 +42,9 @@ def earliest(more=""):
 KEPT = {
     "before late withdrawals": earliest(),
     "before late withdrawals, beside tables of others": earliest(BESIDE[OTHERS]),
-    **{path.stem: (text_of(path.name), text_of(f"{path.stem}.ledger")) for path in sorted(VERSION_1.glob("*.sql"))},
+    "running": first("running"),
+    "ten": first("ten"),
 }
-
-
-@pytest.mark.parametrize("name", ["running", "ten"])
-def test_copies(name, tmp_path):
-    """The constants of crates/tests_of_stores make the same rows as the files here."""
-    texts, upper = texts_of("first_files.rt"), name.upper()
-    ours = made(tmp_path / "ours.db", text_of(f"{name}.sql"))
-    theirs = made(tmp_path / "theirs.db", texts["FIRST_TABLES"] + texts[f"{upper}_ROWS"] + texts[f"{upper}_LOTS"])
-    assert rows_of(ours) == rows_of(theirs)
-    assert text_of(f"{name}.ledger") == texts[f"{upper}_LEDGER"]
 
 
 def try_looks(program, path):
@@ -104,11 +86,11 @@ def test_opened(program, name, size, tmp_path):
 def test_opened_as_the_program_left_it(program, tmp_path):
     path = tmp_path / "office.db"
     path.write_bytes(lzma.decompress((VERSION_1 / "version_1.db.xz").read_bytes()))
-    try_opened(program, str(path), text_of("running.ledger"), pages.FORMER)
+    try_opened(program, str(path), first("running")[1], pages.FORMER)
 
 
 class Migrated(Life):
-    """The office of tests/version_1/running.sql, in version 2: a contract of 750 of which 300 are paid, and nothing else."""
+    """The office `running`, in version 2: a contract of 750 of which 300 are paid, and nothing else."""
 
     def __init__(self, port):
         super().__init__(Port(port))
@@ -157,7 +139,7 @@ class Migrated(Life):
 
 def test_served(program, size, tmp_path):
     """The office of a running contract is served. Its contract is ended, and another procurement is done, with a security. The audit finds nothing."""
-    path = made(tmp_path / "office.db", text_of("running.sql"), size)
+    path = made(tmp_path / "office.db", first("running")[0], size)
     (_, moment, *_), = rows_of(path)["office"]
     with Serving(program, str(tmp_path)) as serve:
         port = serve(path, stdout=subprocess.DEVNULL).port

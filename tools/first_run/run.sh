@@ -5,8 +5,10 @@
 #
 # The smaller program is an office in memory with the settings of office.rt.in. It has no file store and no command line, whose libraries take longer to compile
 # than the whole office. It isn't a crate of the repository, so that the gate doesn't prove it. Its files end in `.in`, because the gate rejects a `.rt` file
-# outside a crate. On standard error the script says which of the two programs runs. It ends with the program's status.
+# outside a crate. On standard error the script says which of the two programs runs, and each half minute that it still compiles. It ends with the program's
+# status.
 set -eu
+beats=
 here=$(cd "$(dirname "$0")" && pwd)
 root=$(cd "$here/../.." && pwd)
 if [ -x "$root/build/procure" ]; then
@@ -14,9 +16,11 @@ if [ -x "$root/build/procure" ]; then
     exec "$root/build/procure" desk "$root/crates/procure/data/office.toml" < "$root/crates/procure/stdin"
 fi
 echo 'There is no build/procure yet (make build proves and builds it). So an office in memory is now compiled from the sources, without proofs. This takes' >&2
-echo 'one to three minutes in which nothing is printed. Then it answers crates/procure/stdin, and after the two answers rt says how its runs ended.' >&2
+echo 'one to three minutes, and longer on a busy machine. Then it answers crates/procure/stdin, and after the two answers rt says how its runs ended.' >&2
 folder=$(mktemp -d)
-trap 'rm -rf "$folder"' EXIT
+(while sleep 30 > /dev/null 2>&1; do beats="$beats."; echo "still compiling$beats" >&2; done) &
+beat=$!
+trap 'kill $beat; rm -rf "$folder"' EXIT
 trap 'exit 130' INT
 trap 'exit 143' TERM
 "$root/tools/copy_crates" "$folder/office"

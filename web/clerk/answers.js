@@ -4,6 +4,7 @@ import { element, given } from "../common/draw.js";
 import { button, table } from "../common/forms.js";
 import { moment, number } from "../common/money.js";
 import { say } from "../common/texts.js";
+import { lineWithTitle } from "../common/titles.js";
 import { momentText } from "./values.js";
 
 // If there are more lots than this, they are folded.
@@ -15,8 +16,8 @@ export function warningList(texts) {
     element("ul", {}, texts.map((text) => element("li", {}, text))));
 }
 
-/** All answers of a draft. `back` goes to the field with a name. */
-export function answers(draft, back) {
+/** All answers of a draft, with the titles of budget lines. `back` goes to the field with a name. */
+export function answers(draft, titles, back) {
   const pick = (name, value) => say(`editor.${name}.${value}`);
   const rows = [["name", say("editor.name"), draft.name], ["title", say("editor.title"), given(draft.title)],
     ["deadline", say("see.deadline"), moment(momentText(draft.deadline))], ["validity", say("editor.validity"), number(Number(draft.validity))],
@@ -25,7 +26,7 @@ export function answers(draft, back) {
     ["late", say("editor.late"), pick("late", draft.late)], ["performance", say("editor.performance"), amount(draft.performance)]];
   const isFolded = draft.lots.length > FEW;
   return element("div", { class: "answers" }, element("h3", {}, say("answers.title")), answerTable(say("see.terms"), rows, back),
-    draft.lots.map((lot, at) => lotPart(lot, `lots.${at}`, back, isFolded)));
+    draft.lots.map((lot, at) => lotPart(lot, titles, `lots.${at}`, back, isFolded)));
 }
 
 /** An amount, or that none is required. */
@@ -45,9 +46,9 @@ function change(path, label, back) {
   return made;
 }
 
-function lotPart(lot, path, back, isFolded) {
+function lotPart(lot, titles, path, back, isFolded) {
   const head = say("lots.lot", { lot: lot.id, title: lot.title, items: lot.items.length, count: lot.items.length });
-  const rows = [["lotTitle", "title", given(lot.title)], ["line", "line", lot.line], ["estimate", "estimate", number(Number(lot.estimate))],
+  const rows = [["lotTitle", "title", given(lot.title)], ["line", "line", lineWithTitle(lot.line, titles)], ["estimate", "estimate", number(Number(lot.estimate))],
     ["security", "security", amount(lot.security)]].map(([label, name, value]) => [`${path}.${name}`, say(`column.${label}`), value]);
   const heads = ["item", "title", "quantity"].map((name) => say(`column.${name}`));
   const items = lot.items.map((item, at) => [item.id, given(item.title), number(Number(item.quantity)),

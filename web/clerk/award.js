@@ -1,5 +1,6 @@
 // A lot from its examination to its contract: the award, the standstill, and then the signing or the passing
 // over.
+import { share } from "../common/contract.js";
 import { isId } from "../common/csv.js";
 import { element, given, link, placeOf } from "../common/draw.js";
 import { DIGITS, ID, areRight, button, field, form, note, steps } from "../common/forms.js";
@@ -11,8 +12,8 @@ import { momentAndSpan } from "./load.js";
 import { forRole } from "./roles.js";
 import { jsonBody, sendThen } from "./send.js";
 import { caller, may } from "./session.js";
-import { outlookOf } from "./stage.js";
-import { MOST, digitsOf, wholeNumber } from "./values.js";
+import { isAdmissible, outlookOf } from "./stage.js";
+import { MOST, amountOf, wholeNumber } from "./values.js";
 
 /** The next task of a lot. */
 export function awardPart(notice, lot, again) {
@@ -41,6 +42,7 @@ function undecided(notice, lot, again) {
     tellLacking(lot, outlook.tender.corrected - lot.reserved, currency, award, lacking).catch(() => {});
   }
   return element("div", { class: "award" }, element("h4", {}, say("step.award")), element("p", {}, outlookText(lot, outlook, currency)),
+    comparison(lot, outlook, currency).map((text) => element("p", {}, text)),
     isOver ? element("p", { class: "wrong" }, say("award.expired")) : null, lacking, forRole("evaluation", () => steps(award)));
 }
 
@@ -52,6 +54,19 @@ async function tellLacking(lot, more, currency, award, place) {
     award.disabled = true;
     place.textContent = say("award.short", { more: money(more, currency), line: lot.line, free: money(free, currency) });
   }
+}
+
+/** How far the best price is from the estimate and from the lowest other price that can win. */
+function comparison(lot, { code, tender = null }, currency) {
+  if (code !== "best") {
+    return [];
+  }
+  const price = tender.corrected;
+  const others = lot.tenders.filter((one) => one !== tender && isAdmissible(one));
+  const next = others.toSorted((one, other) => one.corrected - other.corrected)[0];
+  const text = (from, name, values) => sayParts(`award.${name}.${price === from ? "same" : price < from ? "below" : "above"}`,
+    { amount: money(Math.abs(from - price), currency) + share(from - price, from), ...values });
+  return [element("span", {}, text(lot.estimate, "estimate", {})), element("span", {}, next ? text(next.corrected, "next", { name: given(next.name) }) : say("award.next.none"))];
 }
 
 /** The result of an award, as a sentence. */
@@ -67,7 +82,7 @@ function awardOrder(notice, lot, outlook) {
   const { name, releases, currency } = notice;
   const told = element("span", {}, outlookText(lot, outlook, currency));
   const standstill = notice.terms.standstill_days > 0 ? [say("award.standstill")] : [];
-  const more = outlook.code === "best" ? [moneyText(lot, outlook.tender, currency), ...standstill] : [];
+  const more = outlook.code === "best" ? [...comparison(lot, outlook, currency), moneyText(lot, outlook.tender, currency), ...standstill] : [];
   const isNobody = outlook.code === "nobody";
   const values = { lot: lot.id, notice: name, ...(isNobody ? {} : { name: outlook.tender?.name ?? "…" }) };
   return { kind: isNobody ? "endlot" : "award", values, told: (value) => awardText(lot, value, currency),
@@ -107,10 +122,10 @@ function valuesOf({ name }, { id, active }) {
 /** The signing, with the performance security if the notice requires one. */
 function signing(notice, lot, again, isRunning) {
   const { performance } = notice.terms;
-  const security = field(say("sign.security"), { hint: say("sign.security.hint"), ...ID });
+  const security = field(say("sign.security"), { hint: say("sign.security.hint"), why: say("why.guarantee"), ...ID });
   const amount = field(say("sign.amount"), { hint: say("sign.asked", { amount: money(performance, notice.currency) }), ...DIGITS });
   const run = () => {
-    const named = { security: security.value(), amount: wholeNumber(digitsOf(amount.value()) ?? "", 1, MOST.amount) };
+    const named = { security: security.value(), amount: wholeNumber(amountOf(amount.value()) ?? "", 1, MOST.amount) };
     const fault = amountFault(named.amount, performance, notice.currency);
     if (performance === 0 || areRight([[security, isId(named.security) ? "" : say("id.wrong")], [amount, fault]])) {
       return sendThen(signOrder(notice, lot, performance > 0 ? named : null), again);

@@ -118,6 +118,14 @@ export function repeatsOf(rows, changes, entries) {
   return { names: entries.filter(isSame).map(({ path }) => path.slice("/budget/".length)), lines: changes.filter(isDouble).map(({ id }) => id) };
 }
 
+// Letters of the two languages, and of names from others; and signs that are within a word if a file's coding is guessed wrongly.
+const LETTERS = /[^A-Za-zÄÖÜäöüßẞÀÂÇÈÉÊËÎÏÔÛàâçèéêëîïôûñ\P{L}]|\p{L}[„”‚‘’ƒ†‡ˆ‰‹Œ™¤\u0080-\u009f]\p{L}/u;
+
+/** The titles with letters that neither language uses: perhaps the file has another coding. */
+export function oddTitles(rows) {
+  return [...new Set(rows.map(({ title }) => title).filter((title) => LETTERS.test(title.normalize("NFC"))))];
+}
+
 /** A budget line before its first row. */
 function begun(id, held) {
   const [appropriation, free] = [BigInt(held?.appropriation ?? 0), BigInt(held?.free ?? 0)];

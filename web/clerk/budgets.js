@@ -9,7 +9,7 @@ import { number } from "../common/money.js";
 import { ledger, line as lineOf, sentenceOf } from "../common/office.js";
 import { POTS, pots } from "../common/pots.js";
 import { hasText, say } from "../common/texts.js";
-import { changesOf, readBudget, repeatsOf } from "./budget.js";
+import { changesOf, oddTitles, readBudget, repeatsOf } from "./budget.js";
 import { converted } from "./convert.js";
 import { ofBudget } from "./fate.js";
 import { isUsed } from "./journal.js";
@@ -105,7 +105,7 @@ async function checked(name, bytes, lines, again) {
   if (all.length > 0) {
     return [head, note("bad", say("budget.refused", { count: all.length }), say("budget.refused.whole")), faultTable(all)];
   }
-  const warnings = warningsOf(repeatsOf(reading.rows, changes, journal().entries));
+  const warnings = [...warningsOf(repeatsOf(reading.rows, changes, journal().entries)), ...oddText(reading.rows)];
   return [head, turned ? conversion(turned.changes) : null,
     note(warnings.length > 0 ? "look" : "good", say("budget.right"), say("budget.right.more"), warnings), changeTable(changes),
     sending(name, sent, changes, warnings, again)].filter(Boolean);
@@ -118,7 +118,7 @@ function conversion(changes) {
     told === null ? say("convert.out") : element("b", {}, given(told))];
   return element("div", {}, note("look", say("convert.done", { count: changes.length }), say("convert.check")),
     searched(say("budget.search.changes"), changes, ({ line, value, told }) => `${line} ${value} ${told ?? ""}`,
-      (some) => growingTable(say("convert.table"), heads, some, rowOf, { figures: [0], first: 10 })));
+      (some) => growingTable(say("convert.table"), heads, some, rowOf, { figures: [0] })));
 }
 
 /** Warnings that the file may already be imported. */
@@ -126,6 +126,12 @@ function warningsOf({ names, lines }) {
   const some = lines.length > MOST_NAMED ? [...lines.slice(0, MOST_NAMED), "…"] : lines;
   return [names.length > 0 ? say("budget.again", { names: names.join(", ") }) : "",
     lines.length > 0 ? say("budget.double", { lines: some.join(", "), count: lines.length }) : ""].filter(Boolean);
+}
+
+/** A warning about titles that look misread. */
+function oddText(rows) {
+  const odd = oddTitles(rows);
+  return odd.length === 0 ? [] : [say("budget.odd", { titles: odd.slice(0, MOST_NAMED).map((text) => `“${text}”`).join(", "), count: odd.length })];
 }
 
 function limits({ bytes, rows }) {
@@ -185,7 +191,7 @@ function nameOf(file) {
 }
 
 function sending(name, bytes, changes, warnings, again) {
-  const batch = field(say("budget.batch"), { hint: say("budget.batch.hint"), value: nameOf(name), ...ID });
+  const batch = field(say("budget.batch"), { hint: say("budget.batch.hint"), why: say("why.batch"), value: nameOf(name), ...ID });
   const run = () => {
     const typed = batch.value();
     if (areRight([[batch, !isAskable(typed) ? say("id.wrong") : isUsed(journal(), `/budget/${typed}`) ? say("budget.used") : ""]])) {

@@ -11,7 +11,7 @@ import { ofRelease, own } from "./fate.js";
 import { forRole } from "./roles.js";
 import { jsonBody, sendThen } from "./send.js";
 import { caller } from "./session.js";
-import { MOST, digitsOf, wholeNumber } from "./values.js";
+import { MOST, amountOf, wholeNumber } from "./values.js";
 
 /** The clerk's actions for a running contract. `behind` gives the function that runs after a command for
  * its lot. */
@@ -36,7 +36,7 @@ function amountField(hint) {
 }
 
 function unitsOf(one) {
-  return wholeNumber(digitsOf(one.value()) ?? "", 1, MOST.amount);
+  return wholeNumber(amountOf(one.value()) ?? "", 1, MOST.amount);
 }
 
 /** Why an amount is wrong, or too much. */
@@ -106,7 +106,7 @@ function payOrder(contracted, body, warning) {
 function changePart(contracted) {
   const { contract, outstanding, again, amount } = contracted;
   const options = [["raise", say("contract.raise")], ["cut", say("contract.cut")]];
-  const kind = field(say("change.kind"), { kind: "choice", options, value: "raise" });
+  const kind = field(say("change.kind"), { kind: "choice", options, value: "raise", why: say("why.change") });
   const [id, sum] = [idField(), amountField(say("change.hint", { amount: amount(outstanding) }))];
   const why = field(say("rationale"), { hint: say("rationale.hint") });
   const run = () => {

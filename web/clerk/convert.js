@@ -3,7 +3,7 @@
 import { binaryOf, contentOf, isUtf8, recordsOf, textOf } from "../common/csv.js";
 import { bytesOf } from "../common/digest.js";
 import { HEAD, readBudget } from "./budget.js";
-import { digitsOf } from "./values.js";
+import { amountOf } from "./values.js";
 
 // A header is looked for in so many records.
 const MOST_ABOVE = 20;
@@ -71,12 +71,6 @@ function written(field) {
   return /[",\r\n]/.test(field) ? `"${field.replaceAll('"', '""')}"` : field;
 }
 
-/** The amount that a field writes, without a currency; the field itself if it could mean something else. */
-function amountOf(field) {
-  const bare = field.replace(/(€|EUR|Euro)/gi, "").replace(/[.,](-|–)\s*$/, "").trim();
-  return /^0[.,]\d{3}/.test(bare) ? field : digitsOf(bare) ?? field;
-}
-
 /** The new file, its changes, and for each of its records the line of the old one. A change has its line, a
  * name, and the text before and after. Null if the file is right as it is, or can't be converted. `titles`
  * has the titles of budget lines that exist. */
@@ -125,7 +119,7 @@ function rowOf(fields, columns, titles, tell) {
   const was = Object.fromEntries(HEAD.map((name) => [name, fields[columns[name]] ?? ""]));
   const line = was.line.trim();
   const text = was.title.replace(/\s+/g, " ").trim();
-  const now = { line, kind: kindOf(was.kind) ?? was.kind, amount: amountOf(was.amount), title: text === "" ? titles.get(line) ?? "" : text };
+  const now = { line, kind: kindOf(was.kind) ?? was.kind, amount: amountOf(was.amount) ?? was.amount, title: text === "" ? titles.get(line) ?? "" : text };
   HEAD.filter((name) => now[name] !== was[name]).forEach((name) => tell(name, was[name], now[name]));
   return HEAD.map((name) => written(now[name])).join();
 }

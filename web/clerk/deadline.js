@@ -2,9 +2,10 @@
 // no contract.
 import { element, given, link, section } from "../common/draw.js";
 import { areRight, button, field, form, lineText, note, steps, table } from "../common/forms.js";
-import { clock, money, moment, number } from "../common/money.js";
+import { clock, minute, money, moment, number } from "../common/money.js";
 import { officeNow, registerText, securities, sentenceOf } from "../common/office.js";
 import { say } from "../common/texts.js";
+import { zoneName } from "../common/zone.js";
 import { ofOpening, ofRelease, own } from "./fate.js";
 import { momentAndSpan } from "./load.js";
 import { forRole } from "./roles.js";
@@ -15,9 +16,9 @@ import { localMilliseconds, localText, momentText, oddHour } from "./values.js";
 // Seconds between two queries for the register.
 const BETWEEN = 15;
 
-/** A field for a moment in local time, with the same moment in UTC below it. */
-export function momentField(label, hint, milliseconds, changed) {
-  const made = field(label, { hint, kind: "datetime-local", value: localText(milliseconds), step: "1" });
+/** A field for a deadline in the time zone in use, with the moment as everybody will see it below. */
+export function momentField(label, milliseconds, changed) {
+  const made = field(label, { hint: say("editor.deadline.hint", { zone: zoneName() }), kind: "datetime-local", value: localText(milliseconds), step: "1" });
   const told = element("p", { class: "quiet" });
   const valueOf = () => localMilliseconds(made.input.value);
   const tell = () => {
@@ -39,7 +40,7 @@ function reasonField() {
 
 export function movePart(notice, again) {
   const { stage } = notice;
-  const later = momentField(say("move.deadline"), say("editor.deadline.hint"), stage.deadline);
+  const later = momentField(say("move.deadline"), stage.deadline);
   const why = reasonField();
   const run = () => {
     const found = later.milliseconds();
@@ -86,9 +87,11 @@ export function openingPart({ name, stage, terms }, again) {
   const open = button(say("open.send"), () => sendThen(order, again));
   open.disabled = !isDue;
   // (one second later the office's own clock has passed the deadline too)
-  const told = isDue ? [say("open.now"), " ", ...momentAndSpan(stage.deadline)]
+  const told = isDue ? [say("open.now"), " ", ...momentAndSpan(stage.deadline, moment)]
     : [say("see.deadline"), ": ", clock(terms.deadline, () => setTimeout(again, 1000))];
-  return section(say("step.opening"), element("p", {}, say("open.what")), element("p", {}, told), forRole("evaluation", () => steps(open)));
+  const made = section(say("step.opening"), element("p", {}, say("open.what")), element("p", {}, told), forRole("evaluation", () => steps(open)));
+  Object.assign(made, { id: "opening", tabIndex: -1 });
+  return made;
 }
 
 /** The register and the securities, fetched again while they are shown and can grow. */
@@ -106,7 +109,7 @@ export function registerPart({ name, currency, stage }) {
         shown = text + JSON.stringify(held);
         place.replaceChildren(...registerTable(text, stage.kind === "receiving"), ...securityTable(held, currency));
       }
-      looked.replaceChildren(say("register.looked"), " ", moment(momentText(officeNow())));
+      looked.replaceChildren(say("register.looked"), " ", minute(momentText(officeNow())));
     } catch (fault) {
       looked.replaceChildren(note("bad", sentenceOf(fault)));
     }

@@ -21,6 +21,10 @@ const LATER = { budget: [() => import("./budgets.js"), "drawBudget"], tenderers:
 // The screens by the first word of the address. The other words are their arguments.
 const SCREENS = { today: drawToday, key: () => (way() === "key" ? drawKey() : drawSigned()),
   ...Object.fromEntries(Object.entries(LATER).map(([page, [load, name]]) => [page, async (...asked) => (await load())[name](...asked)])) };
+// The section of the help for each screen. (A notice's is that of its step.)
+const HELP = { today: "see-what-is-due", key: "sign-in-and-leave-safely", budget: "import-a-budget-file", tenderers: "register-a-firm",
+  new: "publish-a-notice", preview: "publish-a-notice", journal: "sign-in-and-leave-safely", notice: "how-every-step-is-sent",
+  minutes: "while-tenders-come-and-the-opening", letter: "examine-and-award-a-lot" };
 // Screens for one role alone.
 const FOR_ROLE = { new: "notices", preview: "notices" };
 // Seconds until all other screens are loaded too. The first screen is drawn by then, and a lost connection
@@ -34,7 +38,7 @@ function place() {
 }
 
 function around([page]) {
-  drawAround({ site: say("site"), foot: say(way() === "key" ? "foot" : "foot.name"), current: `#${page}`,
+  drawAround({ site: say("site"), foot: say(way() === "key" ? "foot" : "foot.name"), current: `#${page}`, help: ["clerk", HELP[page]],
     pages: [...MENU.filter((name) => !FOR_ROLE[name] || may(FOR_ROLE[name])).map((name) => [`#${name}`, say(`page.${name}`)]), ["/", say("frame.public")]] });
   if (page !== "key") {
     keepPlace(location.hash);

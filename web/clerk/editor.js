@@ -1,9 +1,10 @@
 // The editor of a notice: its terms and lots, what the office would refuse, warnings, and its size.
 import { element, link, placeOf, section, title } from "../common/draw.js";
-import { DIGITS, ID, button, growing, steps } from "../common/forms.js";
+import { DIGITS, ID, asks, button, growing, steps } from "../common/forms.js";
 import { moment, secondsTo, span } from "../common/money.js";
 import { ledger, notices, officeNow } from "../common/office.js";
-import { say } from "../common/texts.js";
+import { hasText, say } from "../common/texts.js";
+import { titlesOf } from "../common/titles.js";
 import { answers, warningList } from "./answers.js";
 import { momentField } from "./deadline.js";
 import { beginnings, saving } from "./drafts.js";
@@ -15,12 +16,12 @@ import { caller, draft as kept, draftSaved, keepDraft, touchDraft } from "./sess
 import { MOST, momentText } from "./values.js";
 
 export async function drawEditor(again) {
-  const [ledgerLines, list] = await Promise.all([ledger(caller()), notices()]);
+  const [ledgerLines, list, titles] = await Promise.all([ledger(caller()), notices(), titlesOf([])]);
   const draft = kept() ?? newDraft();
   if (!kept()) {
     keepDraft(draft);
   }
-  const editor = { draft, lines: new Map(ledgerLines.map((one) => [one.line, one])), list, isChecked: false, again, inputs: new Map(),
+  const editor = { draft, lines: new Map(ledgerLines.map((one) => [one.line, one])), list, titles, isChecked: false, again, inputs: new Map(),
     summary: element("div", {}), lots: element("div", {}) };
   editor.changed = () => {
     touchDraft();
@@ -39,7 +40,7 @@ export async function drawEditor(again) {
 
 function terms(editor) {
   const { draft } = editor;
-  const own = (name, options = {}) => bound(editor, name, draft, name, say(`editor.${name}`), options);
+  const own = (name, options = {}) => bound(editor, name, draft, name, say(`editor.${name}`), { why: hasText(`why.${name}`) ? say(`why.${name}`) : "", ...options });
   const hinted = (name, more = {}) => own(name, { hint: say(`editor.${name}.hint`), ...more });
   const pairs = (...names) => names.map((name) => [name.split(".").at(-1), say(`editor.${name}`)]);
   const weight = hinted("weight", DIGITS);
@@ -47,7 +48,7 @@ function terms(editor) {
   const showWeight = () => { weight.made.hidden = draft.criteria !== "points"; };
   criteria.input.addEventListener("input", showWeight);
   showWeight();
-  const deadline = momentField(say("see.deadline"), say("editor.deadline.hint"), draft.deadline, (found, typed) => {
+  const deadline = momentField(say("see.deadline"), draft.deadline, (found, typed) => {
     Object.assign(draft, { deadline: found, typed });
     editor.changed();
   });
@@ -87,13 +88,17 @@ function drawSummary(editor) {
     const fault = faults.find((it) => it.field === path);
     one.tell(editor.isChecked && fault ? faultText(fault) : "");
   }
-  const empty = button(say("editor.empty"), () => {
-    keepDraft(null);
-    editor.again();
-  }, "second");
+  const empty = button(say("editor.empty"), async () => {
+    if (await asks(say("editor.empty.ask"), say("editor.empty.what"), say("editor.empty.do"), say("editor.empty.keep"))) {
+      // (also one that was saved comes back)
+      touchDraft();
+      keepDraft(null);
+      editor.again();
+    }
+  }, "second harm");
   const preview = faults.length === 0 ? link(say("editor.preview"), "#preview", "button second") : noPreview();
   summary.replaceChildren(sizePart(bodyBytes(draft).length), faultList(editor, faults), warningList(warningTexts(draft, now)) ?? "",
-    steps(button(say("editor.publish"), () => publish(editor, faults)), preview, saving(draft), empty));
+    steps(button(say("editor.publish"), () => publish(editor, faults)), preview, saving(draft)), steps(empty));
 }
 
 /** The preview button while there is no preview yet, and why. */
@@ -163,7 +168,7 @@ function publication(editor) {
   return { kind: "notice", values: { notice: draft.name }, path: `/notices/${draft.name}`, body: bodyBytes(draft), isFinal: true,
     says: [[say("editor.does.deadline"), " ", moment(momentText(draft.deadline))], say("editor.does.money", { sum, lines }),
       say("editor.does.lots", { lots: draft.lots.length, items, count: draft.lots.length }), say("editor.does.stays")],
-    shows: (leave) => [warningList(warningTexts(draft, officeNow())), answers(draft, (path) => {
+    shows: (leave) => [warningList(warningTexts(draft, officeNow())), answers(draft, editor.titles, (path) => {
       leave();
       setTimeout(() => focusOn(editor, { field: path }));
     })],

@@ -6,6 +6,7 @@ import { say } from "../common/texts.js";
 import { ofExamination } from "./fate.js";
 import { jsonBody, send } from "./send.js";
 import { forRole } from "./roles.js";
+import { may } from "./session.js";
 import { isWaiting } from "./stage.js";
 import { wholeNumber } from "./values.js";
 
@@ -13,17 +14,18 @@ import { wholeNumber } from "./values.js";
 const chosen = new Map();
 const ANSWERS = ["yes", "no", "later"];
 
-/** The tenders of a lot that aren't examined yet, with the answers for each. */
+/** The examination of a lot: the words before the table of its tenders, the answers for a tender in that table (`of`), and
+ * the part below it. Null if no tender waits for it. */
 export function examinations(notice, lot, again) {
   const waiting = lot.tenders.filter(isWaiting);
   if (lot.state !== "undecided" || waiting.length === 0) {
     return null;
   }
-  return element("div", {}, element("h4", {}, say("examine.title", { count: waiting.length })),
-    forRole("evaluation", () => answersOf(notice, lot, waiting, again)));
+  const head = element("h4", {}, say("examine.title", { count: waiting.length }));
+  return may("evaluation") ? answersOf(notice, lot, waiting, again, head) : { before: [head, forRole("evaluation", () => null)], of: () => null, after: null };
 }
 
-function answersOf(notice, lot, waiting, again) {
+function answersOf(notice, lot, waiting, again, head) {
   const parts = waiting.map((one) => examination(notice, one));
   const none = element("p", { class: "wrong", role: "status" });
   const run = async () => {
@@ -36,12 +38,13 @@ function answersOf(notice, lot, waiting, again) {
     }
   };
   const all = () => parts.filter((part) => part.answer() === "later").forEach((part) => part.meets());
-  return [element("p", {}, say("examine.what")), waiting.length === 1 ? null : [steps(button(say("examine.all"), all, "second")),
-    element("p", { class: "quiet" }, say("examine.all.what"))], parts.map(({ made }) => made), none, steps(button(say("examine.send"), run))];
+  return { before: [head, element("p", {}, say("examine.what")), waiting.length === 1 ? null : [steps(button(say("examine.all"), all, "second")),
+    element("p", { class: "quiet" }, say("examine.all.what"))]], of: (receipt) => parts[waiting.findIndex((one) => one.receipt === receipt)]?.made ?? null,
+  after: [none, steps(button(say("examine.send"), run))] };
 }
 
 /** A tender with its answers, and with the points for quality if points decide. */
-function examination({ terms, stage: { byPoints }, currency }, one) {
+function examination({ terms, stage: { byPoints } }, one) {
   const most = 100 - (terms.price_weight ?? 0);
   const own = chosen.get(one.receipt) ?? { answer: "later", quality: "" };
   chosen.set(one.receipt, own);
@@ -59,11 +62,9 @@ function examination({ terms, stage: { byPoints }, currency }, one) {
     return element("label", { class: "tick", for: id }, input, element("span", {}, say(`examine.${answer}`)));
   });
   show();
-  const told = `${say("see.tender.receipt", { receipt: String(one.receipt) })}, ${money(one.corrected, currency)}`;
   const points = () => (byPoints && own.answer === "yes" ? wholeNumber(own.quality, 0, most) : 0);
   return { made: element("div", { class: "examination", role: "group", "aria-label": say("examine.of", { name: one.name, receipt: String(one.receipt) }) },
-    element("p", {}, element("b", {}, given(one.name)), " ", element("span", { class: "quiet below" }, told)), element("div", { class: "choices" }, answers),
-    byPoints ? quality.made : null), answer: () => own.answer, meets: () => answers[0].querySelector("input").click(),
+    element("div", { class: "choices" }, answers), byPoints ? quality.made : null), answer: () => own.answer, meets: () => answers[0].querySelector("input").click(),
     faults: () => [[quality, points() === null ? say("examine.quality.wrong", { most }) : ""]],
     given: () => ({ one, responsive: own.answer === "yes", ...(byPoints && own.answer === "yes" ? { quality: points() } : {}) }) };
 }

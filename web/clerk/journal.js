@@ -23,11 +23,13 @@ export async function addEntry(journal, { moment, who, title, method, path, body
 }
 
 /** The file of a journal: a header, a line for each entry, and a line that ends it. Each line holds the
- * digest of the line before it, so that changed or missing lines are found. */
+ * digest of the line before it, so that changed or missing lines are found. The header has the reasons that
+ * were typed for letters. */
 export async function fileOf(journal) {
   let before = NONE;
   let text = "";
-  for (const part of [{ journal: KIND, version: VERSION, office: journal.office }, ...journal.entries, { end: journal.entries.length }]) {
+  const letters = Object.keys(journal.letters ?? {}).length > 0 ? { letters: journal.letters } : {};
+  for (const part of [{ journal: KIND, version: VERSION, office: journal.office, ...letters }, ...journal.entries, { end: journal.entries.length }]) {
     const line = JSON.stringify({ ...part, before });
     text += `${line}\n`;
     before = await sha256(bytesOf(line));
@@ -47,7 +49,7 @@ export async function readFile(text) {
     if (wrong) {
       return { fault: { line: at + 1, code: wrong } };
     }
-    journal.office = at === 0 ? part.office : journal.office;
+    [journal.office, journal.letters] = at === 0 ? [part.office, part.letters] : [journal.office, journal.letters];
     if (at > 0 && at < lines.length - 1) {
       const { before: _, ...entry } = part;
       journal.entries.push(entry);

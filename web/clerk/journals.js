@@ -3,19 +3,19 @@
 import { bytesOfFile, inGroups } from "../common/digest.js";
 import { below, element, section, title } from "../common/draw.js";
 import { button, drop, growing, note, printButton, save, steps } from "../common/forms.js";
-import { moment } from "../common/money.js";
+import { minute } from "../common/money.js";
 import { officeNow } from "../common/office.js";
 import { say } from "../common/texts.js";
 import { fileOf, joined, readFile } from "./journal.js";
 import { FIRST } from "../common/many.js";
-import { journal, replaceJournal } from "./session.js";
+import { journal, reasons, replaceJournal, takeReasons } from "./session.js";
 import { momentText, textOf } from "./values.js";
 
 export function drawJournal(again) {
   const { entries, saved } = journal();
   const told = element("div", { role: "status" });
   const keep = button(say("journal.save"), async () => {
-    save(`journal-${momentText(officeNow()).replace(/[-:]/g, "")}.jsonl`, await fileOf(journal()), "application/jsonl");
+    save(`journal-${momentText(officeNow()).replace(/[-:]/g, "")}.jsonl`, await fileOf({ ...journal(), letters: reasons() }), "application/jsonl");
     journal().saved = entries.length;
     again();
   });
@@ -47,6 +47,7 @@ async function taken(text, again) {
     return note("bad", say("journal.other", { office: earlier.office }));
   }
   replaceJournal(joined(earlier, journal()));
+  takeReasons(earlier.letters ?? {});
   again();
   return note("good", say("journal.taken", { count: earlier.entries.length }));
 }
@@ -62,7 +63,7 @@ function outcome({ status, found }) {
 function entryPart(entry) {
   const [kind, text] = outcome(entry);
   return element("li", { value: String(entry.number) }, element("b", {}, entry.title), " ", element("span", { class: kind }, text),
-    below(moment(entry.moment), ` · ${entry.who}`),
+    below(minute(entry.moment), ` · ${entry.who}`),
     element("details", {}, element("summary", {}, say("journal.more")), element("p", { class: "code" }, `${entry.method} ${entry.path}`),
       element("p", { class: "quiet" }, say("journal.body", { bytes: entry.bytes }), " ", element("span", { class: "code" }, inGroups(entry.digest))),
       entry.body ? element("pre", { tabindex: "0" }, entry.body) : "",

@@ -1,12 +1,12 @@
 // The letters for a lot that was awarded or has ended. The winner learns of the award, and every other
 // tenderer why it didn't win, or that the lot ended without a winner or was cancelled.
-import { cityFile, letterhead, remedyOf } from "../common/city.js";
+import { cityFile, letterhead, remedyOf, wordsOf } from "../common/city.js";
 import { element, given, title } from "../common/draw.js";
 import { outcomeOf } from "../common/findings.js";
-import { field, note, printButton, sheet, signs, steps } from "../common/forms.js";
-import { day, money, moment } from "../common/money.js";
+import { button, field, note, printButton, save, sheet, signs, steps } from "../common/forms.js";
+import { day, money, when } from "../common/money.js";
 import { officeNow, registerText, securities } from "../common/office.js";
-import { say, sayParts } from "../common/texts.js";
+import { language, say, sayParts } from "../common/texts.js";
 import { backTo } from "./printed.js";
 import { caller, keepReason, reasonOf, who } from "./session.js";
 import { momentText } from "./values.js";
@@ -25,9 +25,30 @@ export async function drawLetter(_again, name, lotId) {
   if (letters.length === 0) {
     return { title: head, content: [title(head), note("look", say("letters.none")), backTo(name)] };
   }
+  const sheets = letters.map((parts) => sheet(parts));
+  const keepAll = () => sheets.forEach((made, at) => save(`letter-${name}-${lotId}-${at + 1}.html`, pageOf(made, head), "text/html"));
+  const keep = button(say("letters.save", { count: letters.length }), keepAll, "second");
   return { title: head, isSheet: true, content: [title(head), element("p", {}, say("letters.what", { count: letters.length })),
-    isSealed ? note("look", say("letters.open")) : lot.contract && remedyOf(city) ? note("look", say("letters.signed")) : null, backTo(name),
-    steps(printButton()), letters.map((parts) => sheet(parts))] };
+    isSealed ? note("look", say("letters.open")) : null, lot.active && letters.length === 1 ? null : remedyNote(city, lot), backTo(name),
+    steps(printButton(), keep), sheets] };
+}
+
+/** A letter as a file that any browser shows and prints, without what is only for the screen. */
+function pageOf(made, head) {
+  const copy = made.cloneNode(true);
+  copy.querySelectorAll(".noprint").forEach((part) => part.remove());
+  const page = element("html", { lang: language() }, element("head", {}, element("meta", { charset: "utf-8" }), element("title", {}, head),
+    element("style", {}, "body { font: 11pt/1.5 sans-serif; max-width: 42rem; margin: 2rem auto; } .below, .line { display: block; }",
+      " .signs { margin-top: 4rem; }")),
+  element("body", {}, copy));
+  return `<!DOCTYPE html>\n${page.outerHTML}\n`;
+}
+
+/** A note to the clerk about the remedy: it is missing, in another language, or too late. */
+function remedyNote({ remedy }, { contract }) {
+  const [tag, lines] = wordsOf(remedy);
+  const fault = contract ? (lines.length > 0 ? "signed" : "") : lines.length === 0 ? "noremedy" : tag === language() ? "" : "otherremedy";
+  return fault ? note("look", say(`letters.${fault}`)) : null;
 }
 
 /** A letter to each tenderer of an opened lot; none while the lot is undecided. */
@@ -44,13 +65,13 @@ function isWinner({ active }, { tenderer }) {
 /** The sentences for the winner, before or after the signing. */
 function won({ terms, currency }, { active, standstillUntil, state, contract }, one) {
   const required = terms.performance && state === "awarded" ? say("letter.performance", { amount: money(terms.performance, currency) }) : "";
-  return [sayParts("letter.won", { price: money(active.value.amount, currency), moment: moment(active.date) }), corrected(one, currency),
+  return [sayParts("letter.won", { price: money(active.value.amount, currency), moment: day(active.date) }), corrected(one, currency),
     standstill(active, standstillUntil, contract), required];
 }
 
 /** The sentences for the others. */
 function lost({ currency, stage }, { active, standstillUntil, shown, contract }, one) {
-  const winner = sayParts("letter.winner", { name: given(active.suppliers[0].name), price: money(active.value.amount, currency), moment: moment(active.date) });
+  const winner = sayParts("letter.winner", { name: given(active.suppliers[0].name), price: money(active.value.amount, currency), moment: day(active.date) });
   const why = say(`see.why.${outcomeOf(one, shown, stage.byPoints)[1]}`);
   return [say("letter.thanks", { receipt: String(one.receipt), why }), winner, ownPrice(one, currency), standstill(active, standstillUntil, contract)];
 }
@@ -66,11 +87,11 @@ function corrected({ stated, corrections }, currency) {
 
 /** Makes the sentences for a lot that ended without a winner; null if it didn't. */
 function endingOf(notice, lot) {
-  const ended = { unsuccessful: nobodyWon, cancelled }[lot.state]?.(notice, lot);
+  const ended = { unsuccessful: nobodyWon, cancelled }[lot.state];
   return ended ? (one) => {
     const [, outcome] = outcomeOf(one, lot.shown, notice.stage.byPoints);
     const why = OWN.includes(outcome) ? say(`see.why.${outcome}`) : "";
-    return [say("letter.thanks", { receipt: String(one.receipt), why }), ended, ownPrice(one, notice.currency)];
+    return [say("letter.thanks", { receipt: String(one.receipt), why }), ended(notice, lot), ownPrice(one, notice.currency)];
   } : null;
 }
 
@@ -80,7 +101,7 @@ function releaseOf({ releases }, tag, lot) {
 
 function nobodyWon(notice, lot) {
   const { date } = releaseOf(notice, "tenderUpdate", lot) ?? {};
-  return date ? sayParts("letter.nobody", { moment: moment(date) }) : say("letter.nobody.undated");
+  return date ? sayParts("letter.nobody", { moment: day(date) }) : say("letter.nobody.undated");
 }
 
 function cancelled(notice, lot) {
@@ -88,14 +109,14 @@ function cancelled(notice, lot) {
   const text = tender.amendments[0].rationale.trim();
   // (a reason that is a sentence has its own full stop)
   const stop = /[.!?…]["”“’)]?$/.test(text) ? "" : ".";
-  return sayParts("letter.cancelled", { moment: moment(date), reason: element("span", {}, given(text), stop) });
+  return sayParts("letter.cancelled", { moment: day(date), reason: element("span", {}, given(text), stop) });
 }
 
 /** Until when nothing is signed, if there is a standstill; or that it is over, and when the contract was signed. */
 function standstill({ date }, until, contract) {
   const name = until <= Date.parse(date) ? "none" : officeNow() < until ? "" : "over";
-  const told = name === "none" ? "" : sayParts(name ? "letter.standstill.over" : "letter.standstill", { until: moment(momentText(until)) });
-  return contract ? [told, told ? " " : "", sayParts("letter.signed", { moment: moment(contract.dateSigned) })] : told;
+  const told = name === "none" ? "" : sayParts(name ? "letter.standstill.over" : "letter.standstill", { until: when(momentText(until)) });
+  return contract ? [told, told ? " " : "", sayParts("letter.signed", { moment: day(contract.dateSigned) })] : told;
 }
 
 /** The state of a tender's security, if this tab may see it. */

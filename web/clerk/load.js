@@ -1,11 +1,11 @@
 // Stages of notices, and the next tasks as sentences.
-import { badge, element, given, link, placeOf } from "../common/draw.js";
+import { element, given, link, placeOf } from "../common/draw.js";
 import { evaluationOf } from "../common/findings.js";
-import { countdown, moment, span } from "../common/money.js";
+import { countdown, moment, span, when } from "../common/money.js";
 import { evaluationText, officeNow, record, terms } from "../common/office.js";
 import { say, sayParts } from "../common/texts.js";
 import { caller, may } from "./session.js";
-import { rolesOf, stageOf, stepOf, tasksOf } from "./stage.js";
+import { rolesOf, stageOf, tasksOf } from "./stage.js";
 import { DAY, momentText } from "./values.js";
 
 // The results of queries for an opened notice are used for a minute, unless the notice has a new release or
@@ -39,25 +39,24 @@ async function openedOf(name) {
   return { compiled, terms: own, tenders, evaluation };
 }
 
-const KINDS = { receiving: "open", due: "running", opened: "running", cancelled: "stopped" };
-
-/** The stage as a badge. */
-export function stageBadge(stage) {
-  return stepOf(stage) === "over" ? badge("ended", say("stage.over")) : badge(KINDS[stage.kind], say(`stage.${stage.kind}`));
-}
-
-/** A moment (in milliseconds), with the time until or since it. */
-export function momentAndSpan(milliseconds) {
-  const away = countdown(milliseconds, (shown, seconds) => {
-    shown.textContent = seconds > 0 ? say("in", { span: span(seconds) }) : say("ago", { span: span(-seconds) });
-    shown.className = "quiet";
+/** A moment (in milliseconds), as `shown` shows it, with the time until or since it in so many units. */
+export function momentAndSpan(milliseconds, shown = when, units = 2) {
+  const away = countdown(milliseconds, (place, seconds) => {
+    place.textContent = seconds > 0 ? say("in", { span: span(seconds, units) }) : say("ago", { span: span(-seconds, units) });
+    place.className = "quiet";
     return true;
   });
-  return [moment(momentText(milliseconds) ?? ""), " ", away];
+  return [shown(momentText(milliseconds) ?? ""), " ", away];
 }
 
-// This long before the validity of the tenders ends, its date is marked as urgent.
+// From this long before its end on, the validity of the tenders is among the tasks.
 const CLOSE = 14 * DAY;
+// Tasks whose moment is a deadline.
+const DEADLINES = ["wait", "open"];
+
+function isFact({ code, until }, now) {
+  return code === "binds" && until - now >= CLOSE;
+}
 
 /** Whether a task is this clerk's own, or only a date. */
 export function isOwn(task) {
@@ -72,15 +71,33 @@ export function othersText(all) {
   return others.length === 0 ? "" : say("task.others", { count: others.length, roles: names.join(", ") });
 }
 
-/** The next tasks of this clerk, as sentences that lead to their lots, and the tasks of others. */
+/** The place of a task: its lot, or the opening. */
+export function placeOfTask(name, { code, lot }) {
+  return lot ? placeOf("notice", name, lot) : code === "open" ? placeOf("notice", name, "", "opening") : placeOf("notice", name);
+}
+
+/** A task or a date as a sentence. */
+function sentence({ code, lot = "", count = 0, contract: number = "", until, since }) {
+  const [shown, ...away] = momentAndSpan(until ?? since ?? 0, DEADLINES.includes(code) ? moment : when);
+  const told = sayParts(`task.${code}`, { lot: given(lot), count, contract: number, until: shown, since: shown });
+  return [told, told.includes(shown) ? away : []];
+}
+
+/** The next tasks of this clerk, as sentences that lead to their places, and the tasks of others. */
 export function tasks(name, stage) {
   const now = officeNow();
   const all = tasksOf(stage, now);
   const others = othersText(all);
-  return [...all.filter(isOwn).map(({ code, lot = "", count = 0, contract: number = "", until, since }) => {
-    const isClose = code === "expired" || (code === "binds" && until - now < CLOSE);
-    const [when, ...away] = momentAndSpan(until ?? since ?? 0);
-    const told = sayParts(`task.${code}`, { lot: given(lot), count, contract: number, until: when, since: when });
-    return element("li", isClose ? { class: "wrong" } : {}, lot ? link(told, placeOf("notice", name, lot)) : told, told.includes(when) ? away : "");
+  return [...all.filter((task) => isOwn(task) && !isFact(task, now)).map((task) => {
+    const [told, away] = sentence(task);
+    const isLinked = task.lot || task.code === "open";
+    return element("li", task.code === "expired" || task.code === "binds" ? { class: "wrong" } : {}, isLinked ? link(told, placeOfTask(name, task)) : told, away);
   }), ...(others ? [element("li", { class: "quiet" }, others)] : [])];
+}
+
+/** The end of the tenders' validity, as a sentence, while it is no task; else null. */
+export function validity(stage) {
+  const now = officeNow();
+  const found = tasksOf(stage, now).find((task) => isFact(task, now));
+  return found ? element("p", { class: "quiet" }, sentence(found)) : null;
 }

@@ -5,19 +5,21 @@ import { number } from "../common/money.js";
 import { say } from "../common/texts.js";
 import { newLot, wantedOf } from "./notice.js";
 import { COLUMNS, lotsOf } from "./sheet.js";
-import { MOST, digitsOf } from "./values.js";
+import { MOST, amountOf, digitsOf } from "./values.js";
 
 // At most this many lots are unfolded, and at most this many budget lines are offered in a menu. Beyond that,
 // the field completes what is typed.
 const UNFOLDED = 3;
 const MOST_CHOSEN = 100;
+// The fields of a draft that are amounts.
+const AMOUNTS = ["estimate", "security", "performance"];
 
 /** A field of the draft. The draft changes with each key; a number loses its separators when the field loses
  * the focus. `path` is the field's name in the faults. */
 export function bound(editor, path, object, name, label, options) {
   const made = field(label, { ...options, value: object[name] });
   made.input.addEventListener("input", () => {
-    object[name] = (options.inputmode && digitsOf(made.input.value)) || made.input.value;
+    object[name] = (options.inputmode && (AMOUNTS.includes(name) ? amountOf : digitsOf)(made.input.value)) || made.input.value;
     editor.changed();
   });
   made.input.addEventListener("change", () => { made.input.value = object[name]; });
@@ -116,7 +118,8 @@ function lotPart(editor, lot, at) {
   }, "second");
   const fields = [own("id", "lot", ID), titled(boundTitle(editor, `${path}.title`, lot, say("column.lotTitle"))),
     element("div", {}, own("line", "line", lineOptions(editor, lot.line)), money),
-    own("estimate", "estimate", DIGITS), own("security", "security", { hint: say("lots.security.hint"), ...DIGITS })];
+    own("estimate", "estimate", { why: say("why.estimate"), ...DIGITS }),
+    own("security", "security", { hint: say("lots.security.hint"), why: say("why.security"), ...DIGITS })];
   const isOpen = editor.draft.lots.length <= UNFOLDED ? { open: "" } : {};
   return element("details", { class: "card", ...isOpen }, summary, element("div", { class: "fields" }, fields), itemTable(editor, lot, path),
     steps(addItem(editor, lot, path), editor.draft.lots.length > 1 ? away : ""));
@@ -124,11 +127,11 @@ function lotPart(editor, lot, at) {
 
 /** The budget lines as a menu, each with its free money. A line that doesn't exist stays in it, so that the
  * fault can be shown. */
-function lineOptions({ lines }, held) {
+function lineOptions({ lines, titles }, held) {
   if (lines.size > MOST_CHOSEN) {
     return { ...ID, list: "lines", hint: say("lots.noline") };
   }
-  const known = [...lines.values()].map(({ line, free }) => [line, `${line} (${say("lots.free", { free })})`]);
+  const known = [...lines.values()].map(({ line, free }) => [line, `${line} ${titles.get(line) ?? ""} (${say("lots.free", { free })})`.replace("  ", " ")]);
   return { kind: "choice", options: [["", say("lots.noline")], ...known, ...(held === "" || lines.has(held) ? [] : [[held, held]])] };
 }
 

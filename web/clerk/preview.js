@@ -1,9 +1,11 @@
 // The preview of a notice: the public page of the release that the publication will make.
+import { isId } from "../common/csv.js";
 import { element, link, title } from "../common/draw.js";
 import { note } from "../common/forms.js";
 import { ledger, notices, officeNow, record } from "../common/office.js";
 import { drawProcess } from "../common/process.js";
 import { say } from "../common/texts.js";
+import { titlesOf } from "../common/titles.js";
 import { bodyOf, faultsOf } from "./notice.js";
 import { caller, draft } from "./session.js";
 import { momentText } from "./values.js";
@@ -22,7 +24,7 @@ function compiledOf(body, name, earlier) {
 
 export async function drawPreview() {
   const written = draft();
-  const [lines, list] = await Promise.all([ledger(caller()), notices()]);
+  const [lines, list, titles] = await Promise.all([ledger(caller()), notices(), titlesOf((written?.lots ?? []).map(({ line }) => line).filter(isId))]);
   const back = element("p", {}, link(say("preview.back"), "#new"));
   if (!written || faultsOf(written, new Map(lines.map((one) => [one.line, one])), officeNow()).length > 0) {
     return { title: say("editor.preview"), content: [title(say("editor.preview")), note("look", say("preview.none")), back] };
@@ -31,6 +33,6 @@ export async function drawPreview() {
   const compiled = compiledOf(body, written.name, list.length > 0 ? await record(list[0].notice) : null);
   const release = { tag: ["planning", "tender"], date: momentText(officeNow()), tender: compiled.tender };
   return { title: say("editor.preview"), content: [note("look", say("preview.note")), back,
-    drawProcess({ name: written.name, compiled, releases: [release], terms: { price_weight: null, ...body }, tenders: null, evaluation: null,
+    drawProcess({ name: written.name, compiled, titles, releases: [release], terms: { price_weight: null, ...body }, tenders: null, evaluation: null,
       isPreview: true })] };
 }

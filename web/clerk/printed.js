@@ -4,7 +4,7 @@ import { bytesOf, inGroups, sha256 } from "../common/digest.js";
 import { below, element, given, link, placeOf, title } from "../common/draw.js";
 import { tendersOf } from "../common/findings.js";
 import { note, printButton, sheet, signs, steps, table } from "../common/forms.js";
-import { money, moment, number } from "../common/money.js";
+import { minute, money, moment, number } from "../common/money.js";
 import { minutesText, record } from "../common/office.js";
 import { say } from "../common/texts.js";
 
@@ -28,7 +28,7 @@ export async function drawMinutes(_again, name) {
   const digest = element("span", { class: "code" }, inGroups(await sha256(bytesOf(text))));
   return { title: head, isSheet: true, content: [back, steps(printButton()), sheet(letterhead(city), title(head),
     element("p", {}, given(compiled.buyer.name)), element("p", {}, given(lines[0][2] ?? "")),
-    element("p", {}, say("minutes.deadline"), " ", moment(told("deadline"))), element("p", {}, say("minutes.opened"), " ", moment(told("opened"))),
+    element("p", {}, say("minutes.deadline"), " ", moment(told("deadline"))), element("p", {}, say("minutes.opened"), " ", minute(told("opened"))),
     element("p", {}, say("minutes.count", { count: tenders.length })), lots, element("p", { class: "quiet" }, say("minutes.prices")),
     element("p", { class: "quiet" }, from, " ", say("order.digest"), " ", digest), element("p", { class: "below" }, say("minutes.place")),
     signs(say("minutes.opener"), say("minutes.witness"), say("minutes.witness")))] };

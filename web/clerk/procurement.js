@@ -8,26 +8,32 @@ import { awardPart, letters } from "./award.js";
 import { contractPart } from "./contracts.js";
 import { cancelPart, movePart, openingPart, registerPart } from "./deadline.js";
 import { examinations } from "./examine.js";
-import { tasks } from "./load.js";
+import { tasks, validity } from "./load.js";
 import { may } from "./session.js";
 import { STEPS, stepOf } from "./stage.js";
 import { loadNotice } from "./whole.js";
 
-export async function drawProcurement(again, name, asked = "") {
+// The section of the help for each step, and for the end.
+const HELP = { tenders: "while-tenders-come-and-the-opening", opening: "while-tenders-come-and-the-opening", examination: "examine-and-award-a-lot",
+  award: "examine-and-award-a-lot", signing: "sign-or-pass-over-the-winner", contract: "pay-change-and-end-a-contract", over: "pay-change-and-end-a-contract" };
+
+/** `asked` is a lot, and `place` another part of the screen. */
+export async function drawProcurement(again, name, asked = "", place = "") {
   const notice = await loadNotice(name);
   const { compiled, stage } = notice;
   const lotOf = ({ id }) => stage.lots.find((lot) => lot.id === id);
   // (after a command for a lot, the focus returns to the lot)
   const behind = ({ id }) => () => again("", false, `lot-${id}`);
   const isOpened = stage.kind === "opened";
-  // (the examination comes before the table of tenders, which can be long)
-  const firstOfLot = (lot) => (isOpened ? examinations(notice, lotOf(lot), behind(lot)) : null);
-  const ofLot = (lot) => (isOpened ? awardPart(notice, lotOf(lot), behind(lot)) : null);
+  const examined = new Map(isOpened ? stage.lots.map((lot) => [lot.id, examinations(notice, lot, behind(lot))]) : []);
+  const firstOfLot = ({ id }) => examined.get(id)?.before ?? null;
+  const ofTender = ({ lot, receipt }) => examined.get(lot)?.of(receipt) ?? null;
+  const ofLot = (lot) => (isOpened ? [examined.get(lot.id)?.after ?? null, awardPart(notice, lotOf(lot), behind(lot))] : null);
   const ofContract = (one) => ({ ...notice.contracts.get(one.id), more: contractPart(notice, one, behind) });
   const isPressing = (lot) => lot.id === asked || (isOpened && ["undecided", "awarded"].includes(lotOf(lot).state));
-  const content = drawProcess({ ...notice, above: [path(stage), doing(name, stage), parts(notice, again)], firstOfLot, ofLot, ofContract, isPressing });
+  const content = drawProcess({ ...notice, above: [path(stage), doing(name, stage), parts(notice, again)], firstOfLot, ofTender, ofLot, ofContract, isPressing });
   return { title: `${name}: ${compiled.tender.title}`, content: [content, stage.canCancel && may("notices") ? cancelPart(notice, again) : null],
-    part: lotOf({ id: asked }) && `lot-${asked}` };
+    part: lotOf({ id: asked }) ? `lot-${asked}` : place, help: HELP[stepOf(stage)] };
 }
 
 /** The steps, with the current one marked. */
@@ -40,7 +46,7 @@ function path(stage) {
 /** The next tasks, and those of others. */
 function doing(name, stage) {
   const list = tasks(name, stage);
-  return list.length === 0 ? element("p", { class: "note" }, say("task.none")) : note("look", say("today.next"), element("ul", {}, list));
+  return [list.length === 0 ? element("p", { class: "note" }, say("task.none")) : note("look", say("today.next"), element("ul", {}, list)), validity(stage)];
 }
 
 function parts(notice, again) {

@@ -120,6 +120,16 @@ export function reasonOf(letter) {
   return session.reasons.get(letter) ?? "";
 }
 
+/** All of them, by letter. */
+export function reasons() {
+  return Object.fromEntries(session.reasons);
+}
+
+/** Takes those of a saved journal, except for letters whose reason was typed since. */
+export function takeReasons(saved) {
+  session.reasons = new Map([...Object.entries(saved), ...session.reasons]);
+}
+
 /** Keeps it. Until something is printed, the page asks before it is lost. */
 export function keepReason(letter, text) {
   session.reasons.set(letter, text);

@@ -1,7 +1,7 @@
 // Tables pasted from a spreadsheet, as TSV or CSV: their cells, and the lots and items in them. Runs in node
 // too.
 import { recordsOf } from "../common/csv.js";
-import { digitsOf } from "./values.js";
+import { amountOf, digitsOf } from "./values.js";
 
 const SIGNS = ["\t", ";", ","];
 // The columns, in the order that is used if there is no header, with the words by which a header can name
@@ -97,7 +97,7 @@ function number(found, line, name, cell) {
   if (cell === "") {
     return "";
   }
-  const digits = digitsOf(cell);
+  const digits = name === "quantity" ? digitsOf(cell) : amountOf(cell);
   if (digits === null) {
     found.faults.push({ line, code: "number", value: cell, name });
     return cell;

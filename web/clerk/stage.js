@@ -92,7 +92,8 @@ export function rolesOf({ code }) {
   return ROLES[code] ?? [];
 }
 
-/** The next tasks for a notice, the earliest first: codes with a lot, a contract or a moment. */
+/** The next tasks for a notice: those that can be done now, then dates, each the earliest first. They are codes with a lot, a
+ * contract or a moment. */
 export function tasksOf(stage, now) {
   const { kind, deadline, bindsUntil, isExpired, lots } = stage;
   if (kind !== "opened") {
@@ -100,19 +101,31 @@ export function tasksOf(stage, now) {
   }
   const isBinding = lots.some(({ state }) => state === "undecided" || state === "awarded");
   return [...(isBinding ? [{ code: isExpired ? "expired" : "binds", until: bindsUntil }] : []), ...lots.flatMap((lot) => tasksOfLot(lot, now))]
-    .sort((one, other) => momentOf(one) - momentOf(other));
+    .sort((one, other) => DATES.indexOf(one.code) - DATES.indexOf(other.code) || momentOf(one) - momentOf(other));
 }
 
 /** The groups of notices, the most urgent first: a date has passed; something is to be done now or within seven
  * days; later; and only to wait. */
 export const GROUPS = ["overdue", "week", "later", "waiting"];
 const OVERDUE = ["open", "sign", "expired"], NOW = ["examine", "award", "endlot", "unsigned"], RUNNING = ["contract", "end"];
+// Dates to wait for, in the order in which they are shown after the tasks.
+const DATES = ["contract", "wait", "standstill", "binds"];
 
-/** The group of a notice by those of its tasks that are this clerk's own. */
-export function groupOf(stage, now, isOwn = () => true) {
+/** Whether a task is only a date to wait for. */
+export function isDate(code) {
+  return DATES.includes(code);
+}
+
+/** The group of a notice by those of its tasks that are this clerk's own, and the first of the tasks that put it there. */
+export function workOf(stage, now, isOwn = () => true) {
   const all = tasksOf(stage, now).filter(isOwn);
-  const has = (codes) => all.some(({ code }) => codes.includes(code));
-  return has(OVERDUE) ? "overdue" : has(NOW) || all.some(({ until }) => until < now + 7 * DAY) ? "week" : has(RUNNING) ? "later" : "waiting";
+  const first = (codes) => all.find(({ code }) => codes.includes(code));
+  const tries = [["overdue", first(OVERDUE)], ["week", first(NOW) ?? all.find(({ until }) => until < now + 7 * DAY)], ["later", first(RUNNING)]];
+  return tries.find(([, task]) => task) ?? ["waiting", all[0] ?? { code: "none" }];
+}
+
+export function groupOf(stage, now, isOwn = () => true) {
+  return workOf(stage, now, isOwn)[0];
 }
 
 function tasksOfLot({ id, state, tenders, shown, contract, standstillUntil, hasStandstill }, now) {

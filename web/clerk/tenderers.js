@@ -28,7 +28,7 @@ export async function drawTenderers(again) {
   const list = caller() === null ? null : await tenderers(caller());
   const fields = { tenderer: field(say("tenderer.id"), { hint: say("tenderer.id.hint"), ...ID }),
     name: field(say("tenderer.name"), { hint: say("tenderer.name.hint") }), address: field(say("tenderer.address")),
-    key: field(say("tenderer.key"), { hint: say("tenderer.key.hint") }) };
+    key: field(say("tenderer.key"), { hint: say("tenderer.key.hint"), why: say("why.key") }) };
   const place = element("div", { "aria-live": "polite" });
   const take = async (file) => {
     const told = registrationIn(textOf(await bytesOfFile(file)) ?? "");

@@ -1,32 +1,28 @@
-// Today: the next tasks and deadlines of each notice in groups, the most urgent first, from the office's list
-// and the terms. Finished notices are left out, if the mirror knows them; the search finds them too.
+// Today: the next task of each notice, in groups and by the kind of work, the most urgent first, from the office's list and
+// the terms. Finished notices are left out, if the mirror knows them; the search finds them too.
 import { tables } from "../common/data.js";
-import { below, element, fresh, given, link, placeOf, title } from "../common/draw.js";
-import { entriesOf, finder, noticeOf } from "../common/filters.js";
-import { areRight, button, field, form, jumpTo, note, steps } from "../common/forms.js";
-import { notices, officeNow, sentenceOf } from "../common/office.js";
-import { stateBadge } from "../common/states.js";
-import { say } from "../common/texts.js";
-import { isOwn, othersText, stageBadge, stageOfOpened, tasks } from "./load.js";
+import { element, fresh, given, link, placeOf, title } from "../common/draw.js";
+import { entriesOf } from "../common/filters.js";
+import { button, jumpTo, note, steps } from "../common/forms.js";
 import { growingTable } from "../common/many.js";
-import { GROUPS, groupOf, inOrder, stageOfEntry, stepOf, tasksOf } from "./stage.js";
+import { when } from "../common/money.js";
+import { notices, officeNow, sentenceOf } from "../common/office.js";
+import { say } from "../common/texts.js";
+import { seeking } from "./finds.js";
+import { isOwn, momentAndSpan, othersText, placeOfTask, stageOfOpened } from "./load.js";
+import { GROUPS, inOrder, isDate, stageOfEntry, stepOf, tasksOf, workOf } from "./stage.js";
 
 const OVER = ["complete", "unsuccessful", "cancelled"];
-// This many opened notices are queried at once, those first whose validity ends first; this many rows of a group are shown at first.
+// This many opened notices are queried at once, those first whose validity ends first; this many rows of a table are shown at first.
 const AT_ONCE = 20, ROWS = 10;
+// The date that a row shows, by the kind of work: that of the task, or the end of the tenders' validity.
+const DATES = { open: "deadline", wait: "deadline", sign: "stood", standstill: "stands", expired: "expired", examine: "valid", award: "valid", endlot: "valid",
+  unsigned: "valid", binds: "valid" };
 const asked = { count: AT_ONCE };
 
 /** An opened notice with its stage, or with the fault that prevented it. */
 function staged(entry) {
   return stageOfOpened(entry.notice, entry.releases).then((stage) => ({ ...entry, stage }), (fault) => ({ ...entry, fault }));
-}
-
-function tasksOfEntry(entry, group) {
-  if (entry.fault) {
-    return sentenceOf(entry.fault);
-  }
-  const found = group === "others" ? [] : tasks(entry.notice, stageOfEntry(entry));
-  return found.length === 0 ? say(entry.isLeft ? "today.left" : "task.none") : element("ul", {}, found);
 }
 
 export async function drawToday(again) {
@@ -37,60 +33,60 @@ export async function drawToday(again) {
     .sort((one, other) => Number(one.state === "running") - Number(other.state === "running") || (one.deadline < other.deadline ? -1 : 1));
   const found = await Promise.all(opened.slice(0, asked.count).map(staged));
   const shown = inOrder([...coming, ...found.filter(({ stage }) => !stage || stepOf(stage) !== "over")], officeNow(), isOwn);
-  const left = opened.slice(asked.count).map((entry) => ({ ...entry, isLeft: true }));
-  const known = new Set([...shown, ...left].map(({ notice }) => notice));
-  const others = [...left, ...entries.filter(({ notice }) => !known.has(notice))];
-  const more = button(say("today.more", { count: left.length }), () => {
+  const left = Math.max(opened.length - asked.count, 0);
+  const known = new Set(shown.map(({ notice }) => notice));
+  const more = button(say("today.more", { count: left }), () => {
     asked.count += AT_ONCE;
     return again();
   }, "second");
   const none = note("look", say(list.length === 0 ? "see.list.empty" : "task.none"));
-  const place = element("div", {}, shown.length > 0 ? groups(shown, []) : none);
-  const draw = (words) => {
-    const isFound = finder(words);
-    const matching = (some) => some.filter((one) => isFound(one.words));
-    const [some, rest] = words ? [matching(shown), matching(others)] : [shown, []];
-    place.replaceChildren(...(some.length + rest.length > 0 ? groups(some, rest) : [words ? element("p", {}, say("search.none")) : none]));
-    return [...some, ...rest];
-  };
+  const place = element("div", {}, shown.length > 0 ? groups(shown) : none);
   const rest = othersText(shown.filter(({ fault }) => !fault).flatMap((entry) => tasksOf(stageOfEntry(entry), officeNow())));
-  return { title: say("page.today"), content: [title(say("page.today")), element("p", { class: "intro" }, say("today.intro")), list.length > 0
-    ? seeking(list, draw) : null, rest ? element("p", { class: "quiet" }, rest) : null, place, left.length > 0 ? steps(more) : null] };
-}
-
-/** The field for a number or words: while somebody types, the groups show what matches; the button opens the
- * notice with the number, or the only one that matches. */
-function seeking(list, draw) {
-  let matching = [];
-  const asking = field(say("today.name"), { hint: say("today.name.hint"), kind: "search", maxlength: "200" });
-  asking.input.addEventListener("input", () => { matching = draw(asking.value()); });
-  const made = form(say("today.open"), [asking.made], say("today.show"), () => {
-    const found = noticeOf(list, asking.value()) ?? (matching.length === 1 ? matching[0].notice : null);
-    if (areRight([[asking, found ? "" : say("refusal.NoSuch.notice")]])) {
-      location.hash = placeOf("notice", found);
-    }
-  });
-  made.classList.add("seek");
-  return made;
+  const all = [...shown, ...entries.filter(({ notice }) => !known.has(notice))];
+  return { title: say("page.today"), content: [title(say("page.today")), element("p", { class: "intro" }, say("today.intro")),
+    list.length > 0 ? seeking(all, place) : null, rest ? element("p", { class: "quiet" }, rest) : null, place, left > 0 ? steps(more) : null] };
 }
 
 /** The groups that have notices, each with its heading; above them a button for each. */
-function groups(shown, others) {
+function groups(shown) {
   const now = officeNow();
-  const of = (name) => (name === "others" ? others : shown.filter((entry) => (entry.fault ? "week" : groupOf(stageOfEntry(entry), now, isOwn)) === name));
-  const parts = [...GROUPS, "others"].map((name) => [name, of(name)]).filter(([, entries]) => entries.length > 0)
-    .map(([name, entries]) => groupPart(name, entries));
-  return parts.length > 1 ? [element("div", { class: "jumps", role: "group", "aria-label": say("today.groups") }, parts.map(({ jump }) => jump)),
-    ...parts.map(({ made }) => made)] : parts.map(({ made }) => made);
+  const works = shown.map((entry) => (entry.fault ? ["week", { code: "fault" }, entry] : [...workOf(stageOfEntry(entry), now, isOwn), entry]));
+  const parts = GROUPS.map((name) => [name, works.filter(([group]) => group === name)]).filter(([, some]) => some.length > 0)
+    .map(([name, some]) => groupPart(name, some));
+  return [parts.length > 1 ? element("div", { class: "jumps", role: "group", "aria-label": say("today.groups") }, parts.map(({ jump }) => jump)) : "",
+    ...parts.map(({ made }) => made)];
 }
 
-/** A group. Notices that only wait are folded. */
-function groupPart(name, entries) {
-  const text = say("today.group", { group: say(`today.group.${name}`), count: entries.length });
+/** A group: a table for each kind of work, which names it. Notices that only wait are folded. */
+function groupPart(name, works) {
+  const text = say("today.group", { group: say(`today.group.${name}`), count: works.length });
   const head = element("h2", { id: fresh("group"), tabindex: "-1" }, text);
-  const rowOf = (entry) => [[link(entry.notice, placeOf("notice", entry.notice)), below(given(entry.title))],
-    entry.stage ? stageBadge(entry.stage) : stateBadge(entry.state), tasksOfEntry(entry, name)];
-  const rows = growingTable("", [say("see.notice"), say("see.state"), say("today.next")], entries, rowOf, { kind: "figures tasks", first: ROWS });
-  const folded = name === "waiting" ? element("details", {}, element("summary", {}, say("today.fold")), rows) : rows;
+  const codes = [...new Set(works.map(([, { code }]) => code))].sort((one, other) => Number(isDate(one)) - Number(isDate(other)));
+  const made = codes.map((code) => workTable(code, works.filter(([, task]) => task.code === code)));
+  const folded = name === "waiting" ? element("details", {}, element("summary", {}, say("today.fold")), made) : made;
   return { jump: jumpTo(head, text), made: element("section", { "aria-labelledby": head.id }, head, element("p", { class: "quiet" }, say(`today.what.${name}`)), folded) };
+}
+
+/** The notices with one kind of work, a line each. */
+function workTable(code, works) {
+  const hasDate = Object.hasOwn(DATES, code);
+  const hasWork = !["wait", "none"].includes(code);
+  const heads = ["see.notice", "column.title", ...(hasWork ? ["today.next"] : []), ...(hasDate ? [`today.date.${DATES[code]}`] : [])].map((name) => say(name));
+  const dateOf = (task, entry) => momentAndSpan(DATES[code] === "valid" ? entry.stage.bindsUntil : task.until ?? task.since, when, 1);
+  const rowOf = ([, task, entry]) => [link(entry.notice, placeOf("notice", entry.notice)), given(entry.title), ...(hasWork ? [workOfEntry(entry)] : []),
+    ...(hasDate ? [dateOf(task, entry)] : [])];
+  return growingTable(say("today.work", { work: say(`today.work.${code}`), count: works.length }), heads, works, rowOf,
+    { kind: hasDate ? "figures tasks dated" : "figures tasks", first: ROWS });
+}
+
+/** The own tasks for a notice, in a few words that lead to their places. */
+function workOfEntry(entry) {
+  if (entry.fault) {
+    return sentenceOf(entry.fault);
+  }
+  const own = tasksOf(stageOfEntry(entry), officeNow()).filter((task) => isOwn(task) && task.code !== "binds");
+  return own.map((task, at) => {
+    const { code, lot = "", count = 0, contract = "" } = task;
+    return [at > 0 ? " · " : "", link(say(`today.short.${code}`, { lot, count, contract }), placeOfTask(entry.notice, task))];
+  });
 }

@@ -1,5 +1,6 @@
 // The office's values: lines of text, numbers and moments, as docs/API.md defines them. Runs in node too.
 import { isId } from "../common/csv.js";
+import { atWall, wallOf } from "../common/zone.js";
 
 export const MOST = { body: 65_536, rows: 500, line: 10 ** 15, amount: 10 ** 12, lots: 20, items: 50, quantity: 10 ** 6, text: 200, validity: 365,
   standstill: 90 };
@@ -39,28 +40,34 @@ export function digitsOf(text) {
   return /^[0-9]{1,3}(?:([.,'\u2019 \u00a0\u202f])[0-9]{3})(?:\1[0-9]{3})*$/.test(typed) ? typed.replace(/[^0-9]/g, "") : null;
 }
 
+/** The digits of an amount: the same, also with a currency or with `,-`. Null if anything else would have to be guessed. */
+export function amountOf(text) {
+  const bare = text.replace(/(€|Euro|EUR)/gi, "").replace(/[.,](-|–)\s*$/, "").trim();
+  return /^0[.,]\d{3}/.test(bare) ? null : digitsOf(bare);
+}
+
 /** A moment in milliseconds as the office writes it; null outside of the years that the office knows. */
 export function momentText(milliseconds) {
   const second = Math.floor(milliseconds / 1000) * 1000;
   return Number.isFinite(second) && second >= 0 && second <= LAST_SECOND ? new Date(second).toISOString().replace(/\.\d{3}Z$/, "Z") : null;
 }
 
-/** The milliseconds of a local date and time field (`2026-03-01T13:00`), or null. */
+/** The milliseconds of a date and time field (`2026-03-01T13:00`), which has the time of the zone in use; or null. */
 export function localMilliseconds(text) {
   if (!/^\d{4}-\d\d-\d\dT\d\d:\d\d(:\d\d)?$/.test(text)) {
     return null;
   }
-  const found = new Date(text).getTime();
-  return Number.isNaN(found) ? null : found;
+  const found = Date.parse(`${text}Z`);
+  return Number.isNaN(found) ? null : atWall(found);
 }
 
-/** The content of a local date and time field, from milliseconds. */
+/** The content of a date and time field, from milliseconds. */
 export function localText(milliseconds) {
   if (milliseconds === null) {
     return "";
   }
-  const date = new Date(milliseconds);
-  return new Date(milliseconds - date.getTimezoneOffset() * 60_000).toISOString().slice(0, date.getSeconds() === 0 ? 16 : 19);
+  const text = new Date(wallOf(milliseconds)).toISOString();
+  return text.slice(0, text.slice(17, 19) === "00" ? 16 : 19);
 }
 
 // By so many minutes clocks go forward or back.

@@ -2,17 +2,22 @@
 import { element, given } from "./draw.js";
 import { file } from "./office.js";
 import { language } from "./texts.js";
+import { useZone } from "./zone.js";
 
 let city = null;
 
-/** The city's file, fetched once. A file that is missing or can't be read counts as empty. */
+/** The city's file, fetched once; its time zone is used from then on. A file that is missing or can't be read counts as empty. (A request
+ * fails as `away` also if the page is left meanwhile, which is nothing to warn of.) */
 export async function cityFile() {
   try {
     city ??= JSON.parse((await file("/city.json")) ?? "{}");
   } catch (fault) {
-    console.warn(`city.json: ${fault.message}`);
+    if (fault.kind !== "away") {
+      console.warn(`city.json: ${fault.message}`);
+    }
     city = {};
   }
+  useZone(city.zone);
   return city;
 }
 

@@ -1,11 +1,11 @@
 // A contract: its price against the estimate, its changes and payments, and its performance security.
 import { badge, bar, below, element, facts, given, key, listed } from "./draw.js";
 import { addedTo, endOf, paidOf } from "./findings.js";
-import { money, moment } from "./money.js";
+import { day, money } from "./money.js";
 import { language, say, sayParts } from "./texts.js";
 
 /** A part of an amount, such as ` (2.5%)`; '' if there is no whole. */
-function share(part, whole) {
+export function share(part, whole) {
   return whole === 0 ? "" : ` (${new Intl.NumberFormat(language(), { style: "percent", maximumFractionDigits: 1 }).format(Math.abs(part) / whole)})`;
 }
 
@@ -52,14 +52,14 @@ export function contractPart(one, award, lot, { terms, releases }, { seen = null
   const ended = one.status === "terminated";
   const parts = [{ kind: "paid", name: say("see.paid"), amount: paid },
     ended ? { kind: "free", name: say("see.unpaid"), amount: left } : { kind: "contracted", name: say("see.topay"), amount: left }];
-  const changes = (one.amendments ?? []).map((it) => [moment(it.date), ": ", changeOf(it, currency), " (", given(it.id), "). ", given(it.rationale)]);
+  const changes = (one.amendments ?? []).map((it) => [day(it.date), ": ", changeOf(it, currency), " (", given(it.id), "). ", given(it.rationale)]);
   const payments = (one.implementation?.transactions ?? []).map(({ id, date, value }) =>
-    [moment(date), ": ", money(value.amount, currency), " (", given(id), ")"]);
+    [day(date), ": ", money(value.amount, currency), " (", given(id), ")"]);
   const secured = performance(terms, held, ended, currency);
   const told = [[say(ended ? "see.worth.end" : "see.worth"), money(one.value.amount, currency)],
     [say("see.price"), [money(award.value.amount, currency), below(against(award.value, lot.value))]],
     [say("see.added"), changes.length === 0 ? say("see.nothing") : addedText(addedTo(one, award), award.value)],
-    [say("see.signed"), moment(one.dateSigned)], ended ? [say("see.ended"), moment(endOf(releases, one))] : null,
+    [say("see.signed"), day(one.dateSigned)], ended ? [say("see.ended"), day(endOf(releases, one))] : null,
     seen ? [say("see.outstanding"), money(seen.outstanding, currency)] : null, secured ? [say("see.performance"), secured] : null].filter(Boolean);
   const name = say("see.contract", { contract: one.id });
   return element("section", { class: "contract", "aria-label": name }, element("h4", {}, name, " ", standing(ended, seen)),

@@ -59,6 +59,15 @@ export function recordsOf(binary, separator = ",") {
   return { records, isOpen: state === "quoted" };
 }
 
+/** A table as a file for spreadsheets: its names, and rows of texts and numbers. A text that a sheet would read
+ * as a formula has an apostrophe before it, as in the tables of the mirror. `separator` is a semicolon where
+ * numbers have commas. */
+export function tableOf(names, rows, separator = ",") {
+  const guarded = (text) => text.replace(/(^|[,;\t|])('*)(?=[=+\-@\t\r])/g, "$1'$2");
+  const cell = (value) => (typeof value === "number" ? String(value) : `"${guarded(String(value ?? "")).replaceAll('"', '""')}"`);
+  return `\ufeff${[names, ...rows].map((row) => row.map(cell).join(separator)).join("\r\n")}\r\n`;
+}
+
 /** The number that a field writes: 1 to 16 digits and nothing else, at most 10^15; else null. */
 export function numberOf(field) {
   return /^[0-9]{1,16}$/.test(field) && Number(field) <= MOST_NUMBER ? Number(field) : null;
@@ -97,7 +106,7 @@ const NO_NUMBERS = [
   ["space", /^[ \t\u00a0]*\d+[ \t\u00a0]*$/],
   ["places", /^\d+[.,]0+$/],
   ["groups", /^\d{1,3}(['. ,\u00a0\u2019\u202f]\d{3})+$/],
-  ["part", /^\d+[.,]\d+$/],
+  ["part", /^\d+[.,]\d+$|^\d{1,3}(\.\d{3})+,\d+$|^\d{1,3}(,\d{3})+\.\d+$/],
   ["formula", /^=[^]*$/],
   ["sheet", /^#[^]*$/],
   ["sign", /^[-+][^]*$|^[^]*-$/],

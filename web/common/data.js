@@ -2,17 +2,17 @@
 import { recordsOf } from "./csv.js";
 import { file } from "./office.js";
 
-const FIGURES = new Set(["amount", "appropriation", "amendments", "changes", "contracted", "corrected", "corrections", "estimate", "free", "lots", "paid",
+const FIGURES = new Set(["amount", "appropriation", "amendments", "changes", "contracted", "corrected", "corrections", "estimate", "free", "length", "lots", "paid",
   "performance", "points", "price", "price_weight", "quality", "quantity", "releases", "reserved", "security", "standstill_days", "stated", "tenderers", "tenders",
   "validity_days", "worth"]);
 
-/** The value of a cell: a number, or null if the cell is empty. (The mirror puts an apostrophe before a text
- * that a spreadsheet would read as a formula.) */
+/** The value of a cell: a number, or null if the cell is empty. (The mirror puts an apostrophe wherever a
+ * spreadsheet would read what follows as a formula.) */
 function valueOf(name, text) {
   if (FIGURES.has(name)) {
     return text === "" ? null : Number(text);
   }
-  return /^'[=+\-@\t\r]/.test(text) ? text.slice(1) : text;
+  return text.replace(/(^|[,;\t|])'('*)(?=[=+\-@\t\r])/g, "$1$2");
 }
 
 /** The rows of a table, each keyed by the column names in the first row. */

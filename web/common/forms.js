@@ -5,8 +5,8 @@ import { say } from "./texts.js";
 
 /** A field below its label: the elements (`made`), its `input`, its `value()`, and `tell(sentence)`, which
  * shows a fault, or none if it is empty. `kind` is a type of input, `lines` (several lines of text), or
- * `choice` with `options`, which are pairs of value and text. */
-export function field(label, /** @type {any} */ { id = fresh("field"), kind = "text", hint = "", value = "", options = [], ...attributes } = {}) {
+ * `choice` with `options`, which are pairs of value and text. `why` explains a hard field, after a press of `?`. */
+export function field(label, /** @type {any} */ { id = fresh("field"), kind = "text", hint = "", why = "", value = "", options = [], ...attributes } = {}) {
   const about = [hint ? `${id}-hint` : "", `${id}-wrong`].filter(Boolean).join(" ");
   const own = { id, name: id, "aria-describedby": about, spellcheck: "false", ...attributes };
   const input = kind === "choice" ? element("select", own, options.map(([name, text]) => element("option", { value: name }, text)))
@@ -21,8 +21,20 @@ export function field(label, /** @type {any} */ { id = fresh("field"), kind = "t
       input.setAttribute("aria-invalid", "true");
     }
   };
-  return { made: element("div", { class: "entry" }, element("label", { for: id }, label), input,
+  return { made: element("div", { class: "entry" }, why ? explained(element("label", { for: id }, label), why) : element("label", { for: id }, label), input,
     hint ? element("p", { id: `${id}-hint`, class: "quiet" }, hint) : null, wrong), input, value: () => input.value.trim(), tell };
+}
+
+/** A label with a button that shows and hides a sentence about its field. */
+function explained(label, why) {
+  const text = element("p", { id: fresh("why"), class: "quiet why", hidden: "" }, why);
+  const asks = element("button", { type: "button", class: "asks", "aria-expanded": "false", "aria-controls": text.id,
+    "aria-label": say("frame.why", { name: label.textContent }) }, "?");
+  asks.addEventListener("click", () => {
+    text.hidden = !text.hidden;
+    asks.setAttribute("aria-expanded", String(!text.hidden));
+  });
+  return [element("div", { class: "asked" }, label, asks), text];
 }
 
 /** The attributes of a field for an identifier, and of one for a whole number. */
@@ -38,6 +50,18 @@ export function areRight(pairs) {
   const wrong = pairs.find(([, sentence]) => sentence);
   wrong?.[0].input.focus();
   return wrong === undefined;
+}
+
+/** The faults of a form in one note, which gets the focus. Each leads to its field: a name, a sentence, and the field's input. */
+export function faultNote(head, faults) {
+  const go = ([name, , input]) => button(name, () => {
+    input.closest("details")?.setAttribute("open", "");
+    input.focus();
+  }, "second small");
+  const made = note("bad", head, element("ul", { class: "plain" }, faults.map((fault) => element("li", {}, go(fault), " ", fault[1]))));
+  made.tabIndex = -1;
+  setTimeout(() => made.focus());
+  return made;
 }
 
 /** Why a text isn't a line of text, as a sentence, or ''. */
@@ -61,6 +85,25 @@ export function button(text, act, kind = "", going = text) {
     await Promise.resolve(act()).finally(() => Object.assign(made, { disabled: false, textContent: text }));
   });
   return made;
+}
+
+/** Asks in a window before something is lost. Returns whether the answer is `yes`. */
+export function asks(question, what, yes, no) {
+  return new Promise((answer) => {
+    const dialog = element("dialog", { class: "order", "aria-labelledby": "asks-title" });
+    let isYes = false;
+    const end = (is) => () => {
+      isYes = is;
+      dialog.close();
+    };
+    dialog.append(element("h2", { id: "asks-title" }, question), element("p", {}, what), steps(button(no, end(false), "second"), button(yes, end(true), "harm")));
+    dialog.addEventListener("close", () => {
+      dialog.remove();
+      answer(isYes);
+    });
+    document.body.append(dialog);
+    dialog.showModal();
+  });
 }
 
 /** A button that leads to a heading of the same view. */

@@ -1,11 +1,15 @@
 // The frame of every page: the view that the address asks for, the parts around it, and printing.
 import { element, link, title } from "./draw.js";
+import { cityFile } from "./city.js";
 import { button, note, steps } from "./forms.js";
+import { minuteText } from "./money.js";
 import { sentenceOf } from "./office.js";
 import { chooseLanguage, language, languages, say } from "./texts.js";
 
 const byId = (id) => document.getElementById(id);
 const main = byId("content");
+// (it comes while the texts are on their way)
+cityFile();
 
 /** Adds a button for each language to the page's head. When one is pressed, it waits for `redraw`, and the
  * button keeps the focus. */
@@ -26,8 +30,8 @@ function drawLanguages(redraw) {
 }
 
 /** The menu (pairs of address and name, with the current one), and everything else around a view, including
- * the link to the imprint. */
-export function drawAround({ site, foot, pages, current }) {
+ * the link to the imprint. If there is help, `help` is its page and the section. */
+export function drawAround({ site, foot, pages, current, help = null }) {
   byId("skip").textContent = say("frame.skip");
   byId("site").textContent = site;
   byId("foot").replaceChildren(foot, " ", link(say("frame.imprint"), "/#about"));
@@ -38,6 +42,13 @@ export function drawAround({ site, foot, pages, current }) {
     href === current && made.setAttribute("aria-current", "page");
     return made;
   }));
+  help && byId("pages").append(helpLink(...help));
+}
+
+/** Help comes in a tab of its own, because this one may hold a key. A view can lead to another section (`help`). */
+function helpLink(page, section) {
+  return element("a", { id: "help", href: `/help/${language()}/${page}.html#${section}`, target: "_blank", rel: "noopener" }, say("frame.help"),
+    element("span", { class: "unseen" }, ` ${say("frame.help.tab")}`));
 }
 
 /** A decoded part of an address. A malformed one stays as it is. */
@@ -83,7 +94,7 @@ export function showViews({ place, around, view, site, back = () => null }) {
     // The previous view stays in sight, and nothing of it can be pressed or typed into.
     main.inert ||= isMoved;
     drawLanguages(() => show(false));
-    await around(where);
+    await Promise.all([around(where), cityFile()]);
     byId("status").textContent = say("frame.asking");
     byId("status").className = "";
     main.setAttribute("aria-busy", "true");
@@ -109,7 +120,10 @@ export function showViews({ place, around, view, site, back = () => null }) {
 }
 
 /** Replaces the previous view. */
-function put({ content, told, title: name, isSheet = false }, sentence, isWrong) {
+function put({ content, told, title: name, isSheet = false, help = "" }, sentence, isWrong) {
+  if (help) {
+    byId("help").hash = help;
+  }
   document.body.classList.toggle("one-sheet", isSheet);
   main.replaceChildren(...content.flat(Infinity).filter(Boolean));
   main.setAttribute("aria-busy", "false");
@@ -123,7 +137,7 @@ function put({ content, told, title: name, isSheet = false }, sentence, isWrong)
 
 /** On paper: where the sheet comes from, and when it was printed. */
 export function sourceOf() {
-  return say("sheet.from", { address: location.href, when: new Date().toISOString().replace(/\.\d+Z$/, "Z") });
+  return say("sheet.from", { address: location.href, when: minuteText(Date.now()) });
 }
 
 function tellSource() {

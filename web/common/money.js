@@ -2,6 +2,7 @@
 import { element } from "./draw.js";
 import { officeNow } from "./office.js";
 import { language, say } from "./texts.js";
+import { zone } from "./zone.js";
 
 // Number and date formats are made once: making one takes longer than using it a hundred times.
 const forms = new Map();
@@ -33,44 +34,60 @@ export function typed(text, most) {
     return { fault: "empty" };
   }
   if (!/^\d+$/.test(digits)) {
-    return { fault: /^\d+[.,]\d+$/.test(digits) ? "point" : "digits" };
+    return { fault: /^\d+[.,][\d.,]*$/.test(digits) ? "point" : "digits" };
   }
   const trimmed = digits.replace(/^0+(?=\d)/, "");
   return trimmed.length > 16 || Number(trimmed) > most ? { fault: "above" } : { value: Number(trimmed) };
 }
 
 const DAY = { day: "numeric", month: "long", year: "numeric" };
-const TIME = { hour: "2-digit", minute: "2-digit", second: "2-digit", hourCycle: "h23" };
+const MINUTE = { ...DAY, hour: "2-digit", minute: "2-digit", hourCycle: "h23", timeZoneName: "short" };
+const SECOND = { ...MINUTE, second: "2-digit" };
 
-function formatted(date, parts) {
-  return form(Intl.DateTimeFormat, parts).format(date);
+function formatted(date, parts, timeZone = zone()) {
+  return form(Intl.DateTimeFormat, { ...parts, timeZone }).format(date);
 }
 
-/** The day of a moment, in UTC. */
-export function day(text) {
-  const date = new Date(text);
-  return element("time", { datetime: text }, Number.isNaN(date.getTime()) ? text : formatted(date, { ...DAY, timeZone: "UTC" }));
-}
-
-/** A moment of the office: in UTC, which counts, and in local time. The second one has no day if that is the
- * same. */
-export function moment(text) {
+/** A moment of the office with these parts. Its title says all of it, also in UTC. */
+function shown(text, parts) {
   const date = new Date(text);
   if (Number.isNaN(date.getTime())) {
     return element("span", {}, text);
   }
-  const isSameDay = formatted(date, DAY) === formatted(date, { ...DAY, timeZone: "UTC" });
-  const [here, utc] = [{ timeZoneName: "short" }, { timeZone: "UTC" }].map((zone) => (isWhole) =>
-    formatted(date, { ...(isWhole || !isSameDay ? DAY : {}), ...TIME, ...zone }));
-  const both = () => say("moment.both", { utc: `${utc(true)} UTC`, here: here(false), local: here(true), second: `${utc(false)} UTC` });
-  return element("time", { datetime: text }, date.getTimezoneOffset() === 0 ? `${utc(true)} UTC` : both());
+  const whole = [zone(), "UTC"].map((one) => formatted(date, SECOND, one));
+  return element("time", { datetime: text, title: [...new Set(whole)].join(" = ") }, formatted(date, parts));
 }
 
-/** The time between two moments, given in seconds, as `2 days, 3 hours` or `4 minutes`. */
-export function span(seconds) {
+/** A moment as its day: for the past. */
+export function day(text) {
+  return shown(text, DAY);
+}
+
+/** A moment to the minute: for the future. */
+export function minute(text) {
+  return shown(text, MINUTE);
+}
+
+/** A moment to the second: for deadlines and receipts. */
+export function moment(text) {
+  return shown(text, SECOND);
+}
+
+/** A past moment as its day, a later one to the minute. */
+export function when(text) {
+  return Date.parse(text) <= officeNow() ? day(text) : minute(text);
+}
+
+/** A moment (in milliseconds) to the minute, as a text. */
+export function minuteText(milliseconds) {
+  return formatted(new Date(milliseconds), MINUTE);
+}
+
+/** The time between two moments, given in seconds, as `2 days, 3 hours` or `4 minutes`, with so many units at most. */
+export function span(seconds, most = 2) {
   const units = [["days", 86400], ["hours", 3600], ["minutes", 60], ["seconds", 1]];
   const at = Math.max(0, units.findIndex(([, unit]) => seconds >= unit));
-  const told = seconds < 1 ? units.slice(-1) : units.slice(at, at + 2);
+  const told = seconds < 1 ? units.slice(-1) : units.slice(at, at + most);
   return told.map(([name, unit], place) => [name, Math.floor((place === 0 ? seconds : seconds % Number(units[at][1])) / Number(unit))])
     .filter(([, count], place) => place === 0 || count > 0).map(([name, count]) => say(`span.${name}`, { count })).join(", ");
 }

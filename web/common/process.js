@@ -3,13 +3,14 @@ import { against, contractPart } from "./contract.js";
 import { badge, below, element, facts, given, link, listed, placeOf, section, title } from "./draw.js";
 import { addedTo, awardsOf, contractOf, kindOfSigned, paidOf, passedOver, stateOf, stateOfLot } from "./findings.js";
 import { note, table } from "./forms.js";
-import { clock, money, moment, number } from "./money.js";
+import { clock, day, money, moment, number } from "./money.js";
 import { officeNow } from "./office.js";
 import { seenOf } from "./seen.js";
-import { say } from "./texts.js";
+import { language, say } from "./texts.js";
 import { tenderTable } from "./tenders.js";
 import { asked, termList } from "./terms.js";
 import { timeline } from "./timeline.js";
+import { lineWithTitle } from "./titles.js";
 
 // If there are more lots than this, they are folded, except for those that somebody unfolded or that need
 // something now.
@@ -30,7 +31,7 @@ function awardPart({ compiled, passed }, lot, award) {
   const active = contract ? [kindOfSigned(contract), "signed"] : ["running", "unsigned"];
   const [kind, name] = award.status === "active" ? active : ["stopped", passed.has(award.id) ? "passed" : "awardended"];
   return [element("b", {}, given(award.suppliers[0].name)), ": ", money(award.value.amount, award.value.currency), " ", badge(kind, say(`see.award.${name}`)),
-    element("span", { class: "below" }, against(award.value, lot.value)), below(say("see.awarded"), " ", moment(award.date))];
+    element("span", { class: "below" }, against(award.value, lot.value)), below(say("see.awarded"), " ", day(award.date))];
 }
 
 function tenderPart(notice, lot) {
@@ -41,7 +42,8 @@ function tenderPart(notice, lot) {
   }
   const shown = notice.evaluation?.get(lot.id);
   return tenders.length === 0 ? element("p", {}, say("see.notenders"))
-    : [shown ? null : element("p", { class: "note" }, say("see.hidden")), tenderTable(notice, lot, tenders, shown)];
+    : [shown ? null : element("p", { class: "note" }, say("see.hidden")), notice.pictures?.pricesOf(notice, lot, tenders, shown),
+      tenderTable(notice, lot, tenders, shown)];
 }
 
 function lotPart(notice, lot, folds) {
@@ -49,14 +51,15 @@ function lotPart(notice, lot, folds) {
   const { currency } = lot.value;
   const made = awardsOf(compiled, lot);
   const own = notice.terms.lots.find(({ id }) => id === lot.id);
-  const line = notice.linked ? link(own.line, placeOf("line", own.line)) : own.line;
+  const named = lineWithTitle(own.line, notice.titles);
+  const line = notice.linked ? link(named, placeOf("line", own.line)) : named;
   const head = [say("see.lot", { lot: lot.id }), " ", given(lot.title), " ", stateBadge(stateOfLot(compiled, lot))];
   const contracts = made.map((award) => [contractOf(compiled, award), award]).filter(([one]) => one);
   const content = [
     facts([[say("see.estimate"), money(lot.value.amount, currency)], [say("see.line"), line], [say("see.security.asked"), asked(own.security, currency)]]),
     items(notice, lot), listed(4, say("see.awards", { count: made.length }), made.map((award) => awardPart(notice, lot, award)), { class: "awards" }),
     notice.linked ? element("p", { class: "quiet" }, link(say("see.lot.address"), placeOf("notice", notice.name, lot.id))) : null,
-    notice.firstOfLot?.(lot), element("h4", {}, say("see.tenders")), tenderPart(notice, lot), notice.ofLot?.(lot),
+    notice.firstOfLot?.(lot) ?? element("h4", {}, say("see.tenders")), tenderPart(notice, lot), notice.ofLot?.(lot),
     contracts.map(([one, award]) => contractPart(one, award, lot, notice, notice.ofContract?.(one)))];
   return element("article", { id: `lot-${lot.id}`, tabindex: "-1", class: "card", "aria-label": say("see.lot", { lot: lot.id }) },
     folds ? folded(`${notice.name}/${lot.id}`, notice.isPressing?.(lot), head, content) : [element("h3", {}, head), content]);
@@ -93,18 +96,26 @@ function factsOf({ name, compiled: { tender, buyer }, isPreview }, state) {
   const deadline = [moment(tender.tenderPeriod.endDate), state === "open" && !isPreview ? [" ", clock(tender.tenderPeriod.endDate)] : null];
   const tenderers = count !== undefined ? number(count) : say(tender.status === "cancelled" ? "see.tenderers.none" : "see.tenderers.sealed");
   return facts([[say("see.notice"), name], [say("see.buyer"), given(buyer.name)], [say("see.estimate"), money(tender.value.amount, tender.value.currency)],
-    [say("see.published"), moment(tender.tenderPeriod.startDate)], [say("see.deadline"), deadline], [say("see.tenderers"), tenderers]]);
+    [say("see.published"), day(tender.tenderPeriod.startDate)], [say("see.deadline"), deadline], [say("see.tenderers"), tenderers]]);
 }
 
-/** Links to the office's own answers. */
-function sources({ name, tenders }) {
+/** The documents beside a notice, which the front has and the office doesn't know. */
+function documentPart({ documents }) {
+  const one = ({ notice, file, length, sha256 }) => element("li", {}, link(file, `/documents/${notice}/${file}`), " ", say("see.document", { bytes: number(length) }),
+    below("SHA-256 ", element("span", { class: "code" }, sha256)));
+  return documents?.length > 0 ? section(say("see.documents"), element("ul", {}, documents.map(one))) : null;
+}
+
+/** Links to the page of a notice that needs no script, and to the office's own answers. */
+function sources({ name, tenders, linked, documents }) {
   const paths = ["record", "releases", "terms", ...(tenders ? ["minutes", "evaluation"] : [])].map((path) => `/notices/${name}/${path}`);
-  return section(say("see.raw"), element("ul", {}, paths.map((path) => element("li", {}, link(path, path)))));
+  const page = linked && documents !== null ? element("p", {}, link(say("see.share"), `/data/${language()}/${name}.html`)) : null;
+  return [page, section(say("see.raw"), element("ul", {}, paths.map((path) => element("li", {}, link(path, path)))))];
 }
 
 /** The whole of a notice, which has the members that `seenOf` returns. More members: `isPreview`; `linked`,
  * if budget lines and firms are views of this page; and `above`, the content above the lots. `firstOfLot` and
- * `ofLot` add to each lot before and after its tenders, `ofContract` to each contract. `isPressing` has the
+ * `ofLot` add to each lot before and after its tenders, `ofTender` replaces a tender's result, `ofContract` to each contract. `isPressing` has the
  * lots that need something now. */
 export function drawProcess(notice) {
   const { compiled, releases: all } = notice;
@@ -112,9 +123,10 @@ export function drawProcess(notice) {
   const state = stateOf(compiled, officeNow());
   const told = { ...notice, passed: passedOver(all) };
   const drawn = [title(given(tender.title)), element("p", {}, stateBadge(state)), factsOf(notice, state[1]), notice.above,
+    notice.pictures?.daysOf(notice),
     element("div", { class: "process" },
       element("div", {}, moneyTable(notice), section(say("see.lots.title"), tender.lots.map((lot) => lotPart(told, lot, tender.lots.length > FEW)))),
-      element("div", {}, section(say("see.terms"), termList(notice.terms, tender.value.currency)), section(say("see.happened"), timeline(all, compiled)))),
+      element("div", {}, section(say("see.terms"), termList(notice.terms, tender.value.currency)), documentPart(notice), section(say("see.happened"), timeline(all, compiled)))),
     notice.isPreview ? null : sources(notice)].flat(Infinity).filter(Boolean);
   for (const text of drawn.flatMap((part) => [...part.querySelectorAll("bdi")])) {
     text.lang = compiled.language;

@@ -5,9 +5,10 @@ import { table } from "./forms.js";
 import { money, number } from "./money.js";
 import { language, say } from "./texts.js";
 
-function who({ name, address, receipt, tenderer }, linked) {
-  return [linked ? link(given(name), placeOf("firm", tenderer)) : given(name), below(given(address)),
-    below(say("see.tender.receipt", { receipt: String(receipt) }))];
+function who({ name, address, receipt, tenderer }, linked, isShort) {
+  const number = say("see.tender.receipt", { receipt: String(receipt) });
+  return [linked ? link(given(name), placeOf("firm", tenderer)) : given(name),
+    isShort ? below(given(address), " · ", number) : [below(given(address)), below(number)]];
 }
 
 function priceOf({ reading, stated, corrected, corrections }, currency) {
@@ -53,7 +54,7 @@ function securityShown({ terms, securities }, lot, tender, shown) {
 }
 
 /** The table. `notice` has the compiled record, the terms, and the securities if the reader may see them; on
- * the public page firms are links. `shown` is the lot's evaluation, or undefined. */
+ * the public page firms are links. `ofTender` gives what is shown in place of a tender's result, or null. `shown` is the lot's evaluation, or undefined. */
 export function tenderTable(notice, lot, tenders, shown) {
   const { compiled, terms, linked = false } = notice;
   const byPoints = terms.criteria === "points";
@@ -64,8 +65,8 @@ export function tenderTable(notice, lot, tenders, shown) {
   const hasPoints = byPoints && shown;
   const heads = [say("see.tenderer"), say("see.price"), ...(hasPoints ? [say("see.points")] : []), say("see.found"),
     ...(isSecured ? [say("see.security")] : [])];
-  const rows = ranked(tenders, byPoints, shown).map((tender) => [who(tender, linked), priceOf(tender, lot.value.currency),
-    ...(hasPoints ? [pointsShown(shown.tenders.get(tender.receipt), weight, lowest)] : []), found(tender, shown, byPoints, contract),
+  const rows = ranked(tenders, byPoints, shown).map((tender) => [who(tender, linked, Boolean(notice.ofTender)), priceOf(tender, lot.value.currency),
+    ...(hasPoints ? [pointsShown(shown.tenders.get(tender.receipt), weight, lowest)] : []), notice.ofTender?.(tender) ?? found(tender, shown, byPoints, contract),
     ...(isSecured ? [securityShown(notice, lot, tender, shown)] : [])]);
   const caption = say(hasPoints ? "see.table.points" : "see.table", { count: rows.length, lot: lot.id });
   const rule = hasPoints && lowest !== null ? say("see.points.rule", { weight, lowest: number(lowest), rest: 100 - weight }) : null;

@@ -1,5 +1,5 @@
 // A process as a list of events, one for each release.
-import { money, moment } from "./money.js";
+import { day, money, moment } from "./money.js";
 import { say, sayParts } from "./texts.js";
 import { changeOf, reason } from "./contract.js";
 import { element, given } from "./draw.js";
@@ -86,7 +86,7 @@ function ended({ contracts: [{ id }] }, _lots, compiled) {
 function entry(release, lots, compiled) {
   const [, tell] = TOLD.find(([tag]) => release.tag.includes(tag)) ?? [null, null];
   const [head, sentence] = tell ? tell(release, lots, compiled) : [null, []];
-  return element("li", {}, element("h3", {}, head ? say(`see.head.${head}`) : release.tag.join(", ")), element("p", { class: "quiet" }, moment(release.date)),
+  return element("li", {}, element("h3", {}, head ? say(`see.head.${head}`) : release.tag.join(", ")), element("p", { class: "quiet" }, day(release.date)),
     element("p", {}, sentence));
 }
 

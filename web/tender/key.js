@@ -39,7 +39,7 @@ async function ask(where) {
     await tender(1, session.caller);
   } catch (fault) {
     if (!["NoSuch", "NotYourTender"].includes(fault.name)) {
-      where.replaceChildren(note("bad", sentenceOf(fault), fault.name === "BadKey" ? say("key.unknown") : null));
+      where.replaceChildren(fault.name === "BadKey" ? note("look", say("key.unregistered"), say("key.unknown")) : note("bad", sentenceOf(fault)));
       return;
     }
   }

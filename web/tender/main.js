@@ -14,6 +14,10 @@ const own = (name) => async (...asked) => (await import("./tenders.js"))[name](.
 const VIEWS = { "": drawHome, key: drawKey, offer: drawOffer, send: drawSend, tenders: own("drawTenders"), tender: own("drawTender"), check: drawCheck };
 const MENU = { "": "home.short", key: "key.title", offer: "offer.short", tenders: "tenders.title", check: "receipt.number" };
 
+// The section of the help for each view.
+const HELP = { "": "get-a-key", key: "get-a-key", offer: "find-a-notice-and-read-its-terms", send: "check-and-submit", tenders: "change-or-withdraw-a-tender",
+  tender: "change-or-withdraw-a-tender", check: "keep-the-receipt" };
+
 function step(number, name, isDone) {
   return element("li", { class: "card" }, element("h2", {}, `${number}. ${say(`home.${name}`)} `, isDone ? badge("done", say("home.done")) : null),
     element("p", {}, say(`home.${name}.why`)), element("p", {}, link(say(`home.${name}.go`), `#${name}`, isDone ? "button second" : "button")));
@@ -32,9 +36,10 @@ function place() {
   return Object.hasOwn(VIEWS, page) ? [page, ...names] : [""];
 }
 
-function around([page]) {
+function around([page, , lot]) {
   const own = { send: "offer", tender: "tenders" }[page] ?? page;
   drawAround({ site: say("frame.site"), foot: say("frame.foot"), current: `#${own}`,
+    help: ["tenderer", page === "offer" && lot ? "enter-your-prices" : HELP[page]],
     pages: [...Object.entries(MENU).map(([name, text]) => [`#${name}`, say(text)]), ["/", say("frame.public")]] });
   document.getElementById("who").textContent = session.caller ? say("who.key", { name: session.caller.caller }) : say("who.none");
 }

@@ -12,41 +12,56 @@ function rowOf(offer, item, at, changed) {
     "aria-describedby": `unit-${at}-wrong` });
   input.value = offer.units[item.id] ?? "";
   const product = element("output", { for: `unit-${at}`, class: "figure" });
-  const wrong = element("span", { id: `unit-${at}-wrong`, class: "wrong below" });
+  const wrong = element("td", { id: `unit-${at}-wrong`, role: "cell", class: "wrong", colspan: "5" });
+  const below = element("tr", { role: "row", class: "fault-row", hidden: "" }, wrong);
   input.addEventListener("input", () => {
     offer.units[item.id] = input.value;
     changed();
   });
-  const tell = ({ value, fault }) => {
-    const isTold = fault && !(fault === "empty");
-    product.textContent = value === undefined ? "–" : number(BigInt(value) * BigInt(item.quantity));
+  const sentenceOf = ({ fault }) => {
     const more = { above: () => ` ${say("table.most", { most: MOST_UNIT })}`, point: () => ` ${say("table.cents")}` }[fault];
-    wrong.textContent = isTold ? say(`typed.${fault}`) + (more?.() ?? "") : "";
-    input.setAttribute("aria-invalid", String(Boolean(isTold)));
+    return say(`typed.${fault}`) + (more?.() ?? "");
   };
-  return { tell, cells: [given(item.id), given(item.title), number(item.quantity), [input, wrong], product] };
+  const tell = (/** @type {any} */ { value, fault }, isAsked) => {
+    const isTold = Boolean(fault) && (isAsked || fault !== "empty");
+    product.textContent = value === undefined ? "–" : number(BigInt(value) * BigInt(item.quantity));
+    wrong.textContent = isTold ? sentenceOf({ fault }) : "";
+    below.hidden = !isTold;
+    input.setAttribute("aria-invalid", String(isTold));
+  };
+  return { tell, sentenceOf, input, below, cells: [given(item.id), given(item.title), number(item.quantity), input, product] };
 }
 
-/** The table. It calls `changed` with whether it is complete. */
+/** The table: its elements, and `faults()`, which shows each missing or wrong price and returns them as `faultNote` takes them. It
+ * calls `changed` after each change. */
 export function drawTable(offer, changed) {
   const { lot, terms } = offer;
   const sum = element("output", { class: "figure" });
   const told = element("p", { class: "wrong", role: "status" });
   const left = element("p", { class: "quiet" });
   const rows = lot.items.map((item, at) => rowOf(offer, item, at, () => update()));
+  let isAsked = false;
   const update = () => {
     const units = unitsOf(offer);
-    rows.forEach(({ tell }, at) => tell(units[at]));
-    const { sum: all, isAbove, isWhole } = sumOf(offer);
+    rows.forEach(({ tell }, at) => tell(units[at], isAsked));
+    const { sum: all, isAbove } = sumOf(offer);
     sum.textContent = money(all, terms.currency);
     told.textContent = isAbove ? say("table.above", { most: MOST_PRICE }) : "";
-    const open = units.filter(({ value }) => value === undefined).length;
-    left.textContent = open > 0 ? say("table.left", { count: open }) : "";
-    changed(isWhole && !isAbove);
+    const counts = [["left", units.filter(({ fault }) => fault === "empty").length], ["wrong", units.filter(({ fault }) => fault && fault !== "empty").length]];
+    left.textContent = counts.filter(([, count]) => count > 0).map(([name, count]) => say(`table.${name}`, { count })).join(" ");
+    changed();
+  };
+  const faults = () => {
+    isAsked = true;
+    update();
+    const wrong = unitsOf(offer).map((unit, at) => [say("table.unit.of", { item: lot.items[at].id }), unit]).map(([name, unit], at) =>
+      (unit.fault ? [name, rows[at].sentenceOf(unit), rows[at].input] : null)).filter(Boolean);
+    return wrong.length === 0 && sumOf(offer).isAbove ? [[say("table.sum"), told.textContent, rows[0].input]] : wrong;
   };
   const heads = ["table.item", "table.title", "table.quantity", "table.unit", "table.total"].map((name) => say(name));
   const made = table(say("table.caption", { lot: lot.id, currency: terms.currency }), heads, rows.map(({ cells }) => cells),
     { figures: [2, 3, 4], foot: [say("table.sum"), "", "", "", sum] });
+  [...made.tBodies[0].rows].forEach((row, at) => row.after(rows[at].below));
   update();
-  return [element("p", {}, say("table.why", { currency: terms.currency })), made, told, left];
+  return { faults, made: [element("p", {}, say("table.why", { currency: terms.currency })), made, told, left] };
 }

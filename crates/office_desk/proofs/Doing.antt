@@ -13,7 +13,7 @@ use Rattle.office_publications.specs.Keeping.{KeepsItsReleases, next_with_merges
 use Rattle.office_plans.specs.Asking.{given}
 use Rattle.office_plans.specs.Plans.{Plan}
 use Rattle.office_plans.specs.Published.{IsPlan}
-use Rattle.office_desk.specs.MovedLines.{moved_lines_add_up}
+use Rattle.office_desk.specs.MovedLines.{MovesAddUp}
 use Rattle.office_desk.specs.Steps.{Does, IsOfficeAfter}
 
 module _ {S : Type 0} (M : Meaning S) (publisher : Publisher) (moment : ℕ) (caller : Caller) (command : Command) where
@@ -25,6 +25,7 @@ module _ {S : Type 0} (M : Meaning S) (publisher : Publisher) (moment : ℕ) (ca
     before = kept.before;
     all = λ honest t held keeps. tt;
     none = λ honest t held. kept.same honest t held;
+    written = λ honest t held. tt;
     whole = λ honest t held. tt;
     moved = λ honest t held. tt;
     stop_all = λ honest t held keeps. tt;
@@ -35,7 +36,7 @@ module _ {S : Type 0} (M : Meaning S) (publisher : Publisher) (moment : ℕ) (ca
   -- The command was planned, and then carried out or not.
   module _ (old mid new : S) (planned : Plan) (kept : Keeps M old mid)
       (plan : M.honest mid → (t : Tables) → M.holds old t → IsPlan publisher (given t moment caller command) planned)
-      (moved : M.honest mid → (t : Tables) → M.holds old t → moved_lines_add_up command t ≡ true) where
+      (moved : M.honest mid → (t : Tables) → M.holds old t → MovesAddUp command t) where
     next_is : (t : Tables) → IsPlan publisher (given t moment caller command) planned → KeepsItsReleases (given t moment caller command)
         → after_puts planned.puts t ≡ next_with_merges publisher (given t moment caller command)
     next_is t is keeps = ap (λ (ps : List Put). after_puts ps t) (is.put keeps).puts
@@ -47,6 +48,9 @@ module _ {S : Type 0} (M : Meaning S) (publisher : Publisher) (moment : ℕ) (ca
       all = λ honest t held keeps. subst (λ (u : Tables). M.holds new u) (next_is t (plan (alters.before honest) t held) keeps)
           (alters.all honest t (kept.same (alters.before honest) t held));
       none = λ honest t held. tt;
+      written = λ honest t held.
+          let effect = (plan (alters.before honest) t held).effect in
+          (effect.0, subst (λ (ps : List Put). M.holds new (after_puts ps t)) effect.1 (alters.all honest t (kept.same (alters.before honest) t held)));
       whole = λ honest t held. (plan (alters.before honest) t held).whole;
       moved = λ honest t held. moved (alters.before honest) t held;
       stop_all = λ honest t held keeps u left.
@@ -58,6 +62,7 @@ module _ {S : Type 0} (M : Meaning S) (publisher : Publisher) (moment : ℕ) (ca
       before = λ honest. kept.before (alters.before honest);
       all = λ honest t held keeps. tt;
       none = λ honest t held. alters.none honest t (kept.same (alters.before honest) t held);
+      written = λ honest t held. tt;
       whole = λ honest t held. tt;
       moved = λ honest t held. tt;
       stop_all = λ honest t held keeps. tt;

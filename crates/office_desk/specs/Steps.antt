@@ -1,5 +1,5 @@
 -- The answers of a desk: the specification's step, or `Unavailable` if memory is too small or the store fails.
-use Rattle.std.specs.Prelude.{◌≡◌, ℕ, true, false, ◌⊎◌, List, Option, ◌∷◌, Some, None, Result, Ok, Err, IfErr, OnOk, OnErr, Vec}
+use Rattle.std.specs.Prelude.{◌≡◌, ℕ, true, false, ◌⊎◌, List, Option, ◌∷◌, ◌++◌, map, Some, None, Result, Ok, Err, IfErr, OnOk, OnErr, Vec}
 use Rattle.std.specs.declared.alloc.Global.{Global}
 use Rattle.office_commands.specs.declared.command.Caller.{Caller}
 use Rattle.office_commands.specs.declared.queries.Query.{Query}
@@ -10,12 +10,14 @@ use Rattle.office_values.specs.declared.refusal.Refusal.TheVariants.{Unavailable
 use Rattle.office_values.specs.declared.settings.Publisher.{Publisher}
 use Rattle.office_base.specs.Faults.{HasRisen}
 use Rattle.office_base.specs.Joined.{is_overdrawn}
-use Rattle.office_base.specs.Tables.{Tables, contract_at, entries_of_contract}
+use Rattle.office_base.specs.Tables.{Tables, after_puts, contract_at, entries_of_contract}
+use Rattle.office_base.specs.declared.puts.Put.TheVariants as puts
+use Rattle.office_base.specs.declared.records.CompiledRow.{CompiledRow}
 use Rattle.office_base.specs.declared.records.ContractRow.{ContractRow}
 use Rattle.office_base.specs.declared.records.EntryRow.{EntryRow}
 use Rattle.office_base.specs.Shelves.{Meaning}
 use Rattle.office_machine.specs.Lacking.{is_lacking}
-use Rattle.office_machine.specs.Machine.{Given, refusal_of, Reaches}
+use Rattle.office_machine.specs.Machine.{Given, puts_of, refusal_of, Reaches}
 use Rattle.office_machine.specs.Accounts.{AccountsHold}
 use Rattle.office_machine.specs.Fates.{TendersHaveFates, SecuritiesHaveFates, PerformancesHaveFates}
 use Rattle.office_machine.specs.Sights.{Packages, told}
@@ -28,7 +30,7 @@ use Rattle.office_publications.specs.Told.{HasReleases}
 use Rattle.office_plans.specs.Published.{accepted_reply}
 use Rattle.office_plans.specs.Replies.{reply_text, text_of}
 use Rattle.office_desk.specs.Balances.{LedgerAddsUp, LineAddsUp}
-use Rattle.office_desk.specs.MovedLines.{moved_lines_add_up}
+use Rattle.office_desk.specs.MovedLines.{MovesAddUp}
 
 -- The text as the list of its bytes.
 abbrev pub read_text : Result (Vec ℕ Global) Refusal → Result (List ℕ) Refusal
@@ -44,15 +46,20 @@ IsReplyOrRefusal publisher x (Err why) = (refusal_of x ≡ Some why) ⊎ (why �
 abbrev pub IsOfficeAfter : {S : Type 0} → Meaning S → Publisher → S → (Tables → Given) → Tables → Type 0
 IsOfficeAfter M publisher old x u = (t : Tables) → M.holds old t → KeepsItsReleases (x t) → (refusal_of (x t) ≡ None) × (u ≡ next_with_merges publisher (x t))
 
--- The effect of a command that was asked for. After Ok the command is done, if the notice for which it publishes keeps its releases. No row that it needs
--- was missing, and each line adds up whose money it moved. After a refusal nothing has changed. A stop leaves the tables without the command or with all of
+-- The command's own rows and its release are written, and perhaps a merge. These are the specification's rows, whatever the releases of the notice are.
+abbrev pub HasWritten : Publisher → Given → (Tables → Type 0) → Type 0
+HasWritten publisher x Holds = (merges : List CompiledRow) × Holds (after_puts (puts_of (publishing publisher) x ++ map puts.Compiled merges) x.before)
+
+-- The effect of a command that was asked for. After Ok the command is done, if the notice for which it publishes keeps its releases. Its own rows and its
+-- release are written in any case. No row that it needs was missing, and each line adds up whose money it moved. After a refusal nothing has changed. A stop leaves the tables without the command or with all of
 -- it. After a refusal it leaves only what it could leave before, and after `Unavailable` perhaps the tables with the command.
 pub record Does {S T : Type 0} (M : Meaning S) (publisher : Publisher) (old new : S) (result : Result T Refusal) (x : Tables → Given) : Type 0 where
   pub before : M.honest new → M.honest old
   pub all : M.honest new → (t : Tables) → M.holds old t → KeepsItsReleases (x t) → OnOk result (M.holds new (next_with_merges publisher (x t)))
   pub none : M.honest new → (t : Tables) → M.holds old t → OnErr result (M.holds new t)
+  pub written : M.honest new → (t : Tables) → M.holds old t → OnOk result (HasWritten publisher (x t) (M.holds new))
   pub whole : M.honest new → (t : Tables) → M.holds old t → OnOk result (is_lacking (x t) ≡ false)
-  pub moved : M.honest new → (t : Tables) → M.holds old t → OnOk result (moved_lines_add_up (x t).command t ≡ true)
+  pub moved : M.honest new → (t : Tables) → M.holds old t → OnOk result (MovesAddUp (x t).command t)
   pub stop_all : M.honest new → (t : Tables) → M.holds old t → KeepsItsReleases (x t)
       → OnOk result ((u : Tables) → M.may_leave new u → u ≡ next_with_merges publisher (x t))
   pub stop_none : M.honest new → IfErr result (λ why. (u : Tables) → M.may_leave new u → M.may_leave old u ⊎ ((why ≡ Unavailable) × IsOfficeAfter M publisher old x u))

@@ -13,11 +13,12 @@ ghost use Rattle.office_values.specs.declared.settings.Publisher.{Publisher as P
 ghost use Rattle.office_plans.specs.Asking.{given};
 ghost use Rattle.office_base.specs.Shutting.{TellsShut};
 ghost use Rattle.office_desk.specs.Callers.{caller_of, names_no_tenderer};
-ghost use Rattle.office_desk.specs.MovedLines.{moved_lines_add_up};
+ghost use Rattle.office_desk.specs.MovedLines.{MovesAddUp};
 ghost use Rattle.office_plans.specs.Published.{IsPlan, IsPlanned, TellsRefusal, gathers_lines};
 ghost use Rattle.office_desk.specs.Steps.{Does, HasShown, IsReplyOrRefusal, IsSeen, Joins, TellsQuery, read_text};
 
 use crate::callers::{clerk_with_key, is_clerk_name, tenderer_named};
+use crate::laws::moved_lines;
 use crate::moved_lines::moved_lines_add_up;
 use crate::queries::look_at;
 use office_base::laws::looks_follow;
@@ -132,12 +133,13 @@ impl<H: Shelf + Drop> Desk<H> {
     ) -> Result<Planned, Refusal>
         ensures looks { Looks H.meaning self.old.shelf self.new.shelf (λ s.
             IsPlanned self.old.settings.publisher (given s moment caller.now command.entry) result) }
-        ensures moved { H.meaning.honest self.new.shelf → (s : Tables) → H.meaning.holds self.old.shelf s → IfOk result (λ _. moved_lines_add_up command.entry s ≡ true) }
+        ensures moved { H.meaning.honest self.new.shelf → (s : Tables) → H.meaning.holds self.old.shelf s → IfOk result (λ _. MovesAddUp command.entry s) }
         ensures settings { self.new.settings ≡ self.old.settings }
         ensures forbidden { may caller.now (commands.kind_of command.entry) ≡ false → result ≡ Err Refusal.Forbidden }
         ensures tells { gathers_lines command.entry ≡ false → TellsRefusal H.meaning self.old.shelf self.new.shelf (λ s. given s moment caller.now command.entry) result }
     {
         looks_follow::<H>();
+        moved_lines();
         if !may(caller, command.kind()) {
             return Err(Refusal::Forbidden);
         }

@@ -4,5 +4,6 @@
 mod balances;
 mod callers;
 pub mod desk;
+pub mod laws;
 mod moved_lines;
 mod queries;

@@ -19,8 +19,8 @@ use Rattle.office_publications.specs.Publishing.{publishing}
 use Rattle.office_publications.specs.Standing.{IsReached, office_kept}
 use Rattle.office_plans.specs.Asking.{given}
 use Rattle.office_desk.specs.Desks.{DeskOf}
-use Rattle.office_desk.specs.MovedLines.{moved_lines_add_up}
-use Rattle.office_desk.specs.Steps.{HasShown, Needs}
+use Rattle.office_desk.specs.MovedLines.{MovesAddUp}
+use Rattle.office_desk.specs.Steps.{HasShown, HasWritten, Needs}
 use Rattle.office_plans.specs.Replies.{reply_text}
 use Rattle.office_requests.specs.declared.route.Allow.{Allow}
 use Rattle.office_wire.specs.Blocks.{Block}
@@ -143,7 +143,7 @@ IsAnswered M settings old new moment m text =
 
 -- A command is given, these tables have each row that it needs, and each line adds up whose money it moves.
 abbrev pub GivesWhole : Tables → Meant → Type 0
-GivesWhole s (Gives caller command) = ((rule_of command).lacks s ≡ false) × (moved_lines_add_up command s ≡ true)
+GivesWhole s (Gives caller command) = ((rule_of command).lacks s ≡ false) × MovesAddUp command s
 GivesWhole s m = ⊥
 
 -- The store still holds the tables that it held. Otherwise a command is given, with its rows and lines as `GivesWhole` says, and the answer is a 200 in JSON,
@@ -166,13 +166,20 @@ abbrev pub KeepsMeant : Tables → ℕ → Meant → Type 0
 KeepsMeant s moment (Gives caller command) = KeepsItsReleases (given s moment caller command)
 KeepsMeant s moment m = Unit {0}
 
+-- If a command is given, its own rows and its release are written, and perhaps a merge (`HasWritten`).
+abbrev pub WritesMeant : Publisher → (Tables → Type 0) → Tables → ℕ → Meant → Type 0
+WritesMeant publisher Holds s moment (Gives caller command) = HasWritten publisher (given s moment caller command) Holds
+WritesMeant publisher Holds s moment m = Unit {0}
+
 -- This text is the answer, perhaps `Unavailable`, and only a command that is done changes the tables. They are then those that the specification defines, if the
--- command's notice keeps its releases. This holds of any tables in the store that have what the query needs, even if no commands lead to them.
+-- command's notice keeps its releases. Its own rows and its release are the specification's in any case. This holds of any tables in the store that have what the
+-- query needs, even if no commands lead to them.
 abbrev pub IsTold : {S : Type 0} → Meaning S → Settings → S → S → ℕ → (Tables → Meant) → List ℕ → Type 0
 IsTold M settings old new moment m text =
     M.honest new → (s : Tables) → M.holds old s → NeedsMeant settings s (m s)
     → (busy : Bool) × (text ≡ answer_bytes settings busy s moment (m s)) × (is_done busy s moment (m s) ≡ false → M.holds new s)
     × (is_done busy s moment (m s) ≡ true → KeepsMeant s moment (m s) → M.holds new (tables_left settings busy s moment (m s)))
+    × (is_done busy s moment (m s) ≡ true → WritesMeant settings.publisher (M.holds new) s moment (m s))
 
 -- The text is the response to a refusal.
 abbrev pub IsRefusedText : List ℕ → Type 0

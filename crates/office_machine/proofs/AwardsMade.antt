@@ -1,5 +1,5 @@
 -- Each award of a reached office was made by one of its commands, for the tender that was shown as best.
-use Rattle.std.proofs.Common.{◌≡◌, ℕ, Bool, true, false, List, [], ◌∷◌, ◌++◌, map, filter, Option, Some, None, inl, inr, ◌⊎◌, refl, sym, ◌∙◌, ap, subst}
+use Rattle.std.proofs.Common.{◌≡◌, ℕ, Bool, true, false, List, [], ◌∷◌, map, filter, Option, Some, None, inl, inr, ◌⊎◌, refl, sym, ap, subst}
 use Rattle.std.specs.List.{AllByRecursion}
 use Rattle.office_values.specs.declared.refusal.Refusal.{Refusal}
 use Rattle.office_commands.specs.declared.command.Caller.{Caller}
@@ -35,16 +35,16 @@ use Rattle.office_machine.specs.AwardsShown.{IsShownBest, AwardsWereShown, Makes
 use Rattle.office_machine.specs.Machine.{Means, Given, Reaches, command_tests, effect, publication, publication_puts, time_of}
 use Rattle.office_machine.proofs.Accounts.Aside.{after-append}
 use Rattle.office_machine.proofs.AwardsShown.{best_shown, lot_shown, open_notice}
-use Rattle.office_machine.proofs.Commands.{lawful}
-use Rattle.office_machine.proofs.Commands.Footprint.{TableName, Awards, IsOn, AreOn, on-append, on-if, on-map}
-use Rattle.office_machine.proofs.Commands.Lawful.{puts_awards}
-use Rattle.office_machine.proofs.Commands.Tail.{is_touched}
+use Rattle.office_machine.proofs.Commands.Footprint.{Awards, Reads}
+use Rattle.office_machine.proofs.FateLaws.QuietFates.{all_append, all_of_map}
 use Rattle.office_machine.proofs.Parents.ParentsPut.{all-filter, all-table}
-use Rattle.office_machine.proofs.Parents.ParentsThere.{parents_there}
 use Rattle.office_machine.proofs.Passed.{allowed_by, none_holds}
 use Rattle.office_machine.proofs.Rows.Keyed.{found}
 use Rattle.office_machine.proofs.Rows.SortedTables.{sorted}
 use Rattle.office_machine.proofs.Runs.{along}
+use Rattle.office_machine.proofs.Terms.Said.{all_if}
+use Rattle.office_machine.proofs.Terms.TermsKept.{all_made}
+use Rattle.office_machine.proofs.Untouched.{untouched}
 use Rattle.office_machine.proofs.Rows.Keyed as keyed
 
 -- Another state of an award doesn't change who made it.
@@ -81,27 +81,9 @@ puts_made : (xs : List Given) (ps : List Put) (t : Tables) → AllByRecursion (P
 puts_made xs [] t own h = h
 puts_made xs (p ∷ ps) t own h = puts_made xs ps (after_put p t) own.1 (put_made xs p t own.0 h)
 
--- puts on other tables put no award
-one_off : (xs : List Given) (test : TableName → Bool) → test Awards ≡ false → (p : Put) → IsOn test p → PutIsMade xs p
-one_off xs test off (puts.Award a) on = absurd (let both : true ≡ false = sym on ∙ off in cc)
-one_off xs test off _ on = tt
-
-all_off : (xs : List Given) (test : TableName → Bool) → test Awards ≡ false → (ps : List Put) → AreOn test ps → AllByRecursion (PutIsMade xs) ps
-all_off xs test off [] on = tt
-all_off xs test off (p ∷ ps) on = (one_off xs test off p on.0, all_off xs test off ps on.1)
-
-abbrev isnt_award : TableName → Bool
-isnt_award Awards = false
-isnt_award name = true
-
-made_append : (xs : List Given) (ps qs : List Put) → AllByRecursion (PutIsMade xs) ps → AllByRecursion (PutIsMade xs) qs → AllByRecursion (PutIsMade xs) (ps ++ qs)
-made_append xs [] qs a b = b
-made_append xs (p ∷ ps) qs a b = (a.0, made_append xs ps qs a.1 b)
-
--- awards that are cancelled were made if they were made before
-made_ended : (xs : List Given) (rows : List AwardRow) → AllByRecursion (λ (a : AwardRow). WasMade xs (cancelled_award a)) rows → AllByRecursion (PutIsMade xs) (map award_put rows)
-made_ended xs [] all = tt
-made_ended xs (a ∷ rows) all = (all.0, made_ended xs rows all.1)
+reads_awards : (xs : List Given) → Reads (Awards ∷ []) (PutIsMade xs)
+reads_awards xs (puts.Award a) other = absurd (let no : true ≡ false = other in cc)
+reads_awards xs _ other = tt
 
 -- A command, if the awards before it were made.
 
@@ -121,7 +103,7 @@ module _ (means : Means) (xs : List Given) (s : Tables) (moment : ℕ) (caller :
 
   returned_off : (command : Command) (securities : List SecurityRow) → Makes command (securities_returned securities)
   returned_off command securities =
-      all_off (given command ∷ xs) isnt_award refl (securities_returned securities) (on-map isnt_award security_returned (filter is_held_security securities) (λ _. refl))
+      all_of_map (PutIsMade (given command ∷ xs)) security_returned (filter is_held_security securities) (λ _. tt)
 
   module _ (notice lot : List ℕ) (tests : AllByRecursion (λ (test : Bool × Refusal). test.0 ≡ false) (award_tests (award_rows s notice lot) (time_of (given (Award notice lot))))) where
     abbrev x : Given
@@ -159,7 +141,7 @@ module _ (means : Means) (xs : List Given) (s : Tables) (moment : ℕ) (caller :
   fail_made award None n l e w is = tt
   fail_made award (Some a) None l e w is = tt
   fail_made award (Some a) (Some n) None e w is = tt
-  fail_made award (Some a) (Some n) (Some l) e w is = (
+  fail_made award (Some a) (Some n) (Some l) e w is = let P : Put → Type 0 = PutIsMade (given (Fail award) ∷ xs) in (
     earlier (Fail award) award a award_states.Failed is,
     (
       tt,
@@ -167,9 +149,8 @@ module _ (means : Means) (xs : List Given) (s : Tables) (moment : ℕ) (caller :
         tt,
         (
           tt,
-          all_off (given (Fail award) ∷ xs) isnt_award refl (put_if (λ e. puts.Envelope (passed_over e)) e ++ put_if (security_settled Forfeited) w)
-              (on-append isnt_award (put_if (λ e. puts.Envelope (passed_over e)) e) (put_if (security_settled Forfeited) w) (on-if isnt_award (λ e. puts.Envelope (passed_over e)) e (λ _. refl))
-              (on-if isnt_award (security_settled Forfeited) w (λ _. refl))),
+          all_append P (put_if (λ e. puts.Envelope (passed_over e)) e) (put_if (security_settled Forfeited) w) (all_if P (λ e. puts.Envelope (passed_over e)) e (λ _. tt))
+              (all_if P (security_settled Forfeited) w (λ _. tt)),
         ),
       ),
     ),
@@ -180,7 +161,7 @@ module _ (means : Means) (xs : List Given) (s : Tables) (moment : ℕ) (caller :
   sign_made award named None n l e ws is = tt
   sign_made award named (Some a) None l e ws is = tt
   sign_made award named (Some a) (Some n) None e ws is = tt
-  sign_made award named (Some a) (Some n) (Some l) e ws is = (
+  sign_made award named (Some a) (Some n) (Some l) e ws is = let P : Put → Type 0 = PutIsMade (given (Sign award named) ∷ xs) in (
     earlier (Sign award named) award a award_states.Signed is,
     (
       tt,
@@ -190,8 +171,7 @@ module _ (means : Means) (xs : List Given) (s : Tables) (moment : ℕ) (caller :
           tt,
           (
             tt,
-            made_append (given (Sign award named) ∷ xs) (securities_returned ws) (put_if (performance_put a) named) (returned_off (Sign award named) ws)
-                (all_off (given (Sign award named) ∷ xs) isnt_award refl (put_if (performance_put a) named) (on-if isnt_award (performance_put a) named (λ _. refl))),
+            all_append P (securities_returned ws) (put_if (performance_put a) named) (returned_off (Sign award named) ws) (all_if P (performance_put a) named (λ _. tt)),
           ),
         ),
       ),
@@ -209,24 +189,17 @@ module _ (means : Means) (xs : List Given) (s : Tables) (moment : ℕ) (caller :
       let gone : List EnvelopeRow = filter (is_ended_envelope lots) (envelopes_of_notice notice s) in
       let freed : List SecurityRow = filter (is_ended_security lots) (securities_of_notice notice s) in
       let order : IsSorted s = sorted means xs s reached in
-      made_append ys (map (freed_line_put s.lines ended) ended) _
-      (all_off ys isnt_award refl (map (freed_line_put s.lines ended) ended) (on-map isnt_award (freed_line_put s.lines ended) ended (λ _. refl)))
-      (made_append ys (map cancelled_lot_put ended) _ (all_off ys isnt_award refl (map cancelled_lot_put ended) (on-map isnt_award cancelled_lot_put ended (λ _. refl)))
-      (made_append ys (map award_put (filter (is_ended_award lots) (awards_of_notice notice s))) _
-      (made_ended ys (filter (is_ended_award lots) (awards_of_notice notice s))
+      let P : Put → Type 0 = PutIsMade ys in
+      all_append P (map (freed_line_put s.lines ended) ended) _ (all_of_map P (freed_line_put s.lines ended) ended (λ _. tt))
+      (all_append P (map cancelled_lot_put ended) _ (all_of_map P cancelled_lot_put ended (λ _. tt))
+      (all_append P (map award_put (filter (is_ended_award lots) (awards_of_notice notice s))) _
+      (all_made P award_put (filter (is_ended_award lots) (awards_of_notice notice s))
       (all-filter _ (is_ended_award lots) (awards_of_notice notice s)
       (all-filter _ _ s.awards
       (all-table keyed.awards (λ (a : AwardRow). WasMade ys (cancelled_award a)) s.awards order.awards (λ k a is. earlier (Cancel notice rationale) k a award_states.Cancelled is)))))
-      (made_append ys (map envelope_put gone) _ (all_off ys isnt_award refl (map envelope_put gone) (on-map isnt_award envelope_put gone (λ _. refl)))
-      (made_append ys (map drop_put gone) _ (all_off ys isnt_award refl (map drop_put gone) (on-map isnt_award drop_put gone (λ _. refl)))
-      (made_append ys (map security_returned freed) _ (all_off ys isnt_award refl (map security_returned freed) (on-map isnt_award security_returned freed (λ _. refl)))
-      (tt, (tt, tt)))))))
-
-  -- a command that puts no awards
-  other : (command : Command) → puts_awards command ≡ false → first_of (command_tests (given command)) ≡ None → Makes command (effect means.readings (given command))
-  other command none allowed =
-      let tail = (lawful command).tail means.readings s moment caller (parents_there means xs s reached) allowed in
-      all_off (given command ∷ xs) (is_touched (lawful command).touches) ((lawful command).alone.2 ∙ none) (effect means.readings (given command)) tail.touched
+      (all_append P (map envelope_put gone) _ (all_of_map P envelope_put gone (λ _. tt))
+      (all_append P (map drop_put gone) _ (all_of_map P drop_put gone (λ _. tt))
+      (all_append P (map security_returned freed) _ (all_of_map P security_returned freed (λ _. tt)) (tt, (tt, tt)))))))
 
   one_made : (command : Command) → first_of (command_tests (given command)) ≡ None → Makes command (effect means.readings (given command))
   one_made (Award notice lot) allowed =
@@ -239,7 +212,7 @@ module _ (means : Means) (xs : List Given) (s : Tables) (moment : ℕ) (caller :
       let w : Option AwardRow = award_at award s in
       sign_made award named w (notice_of_award w s) (lot_of_award w s) (envelope_of_award w s) (securities_of_award w s) refl
   one_made (Cancel notice rationale) allowed = cancel_made notice rationale (notice_at notice s)
-  one_made command allowed = other command refl allowed
+  one_made command allowed = untouched means xs s moment caller reached (PutIsMade (given command ∷ xs)) (Awards ∷ []) (reads_awards (given command ∷ xs)) command refl allowed
 
 -- the put of a release puts no award
 published_made : (xs : List Given) (t : Tables) (p : Option ReleaseRow) → AreMade xs t → AreMade xs (after_puts (publication_puts p) t)

@@ -10,6 +10,7 @@ pub mod Matched
 pub mod NextReceipt
 pub mod PerformancesKept
 pub mod QuietFates
+pub mod RowsFolded
 pub mod Seen
 pub mod States
 pub mod Steps

@@ -12,7 +12,7 @@ use Rattle.office_machine.proofs.Accounts.AccountsKept.{all_kept}
 use Rattle.office_machine.proofs.Commands.{lawful}
 use Rattle.office_machine.proofs.FateLaws.FatesHold.{FatesStand}
 use Rattle.office_machine.proofs.FateLaws.FatesKept.{all_kept as fates_kept}
-use Rattle.office_machine.proofs.FateLaws.NextReceipt.{no_envelope_yet}
+use Rattle.office_machine.proofs.FateLaws.NextReceipt.{no_envelope_yet, no_security_yet, nothing_yet}
 use Rattle.office_machine.proofs.FateLaws.PerformancesKept.{performances_there}
 use Rattle.office_machine.proofs.Parents.ParentsThere.{parents_there}
 use Rattle.office_machine.proofs.Parents.Whole.{IsWhole}
@@ -36,6 +36,8 @@ whole means xs s reached = record {
   accounts = all_kept means xs s reached;
   order = sorted means xs s reached;
   unused = no_envelope_yet means.readings xs s (fates_kept means xs s reached);
+  no_seal = (nothing_yet means.readings xs s (fates_kept means xs s reached)).no_seal;
+  no_security = no_security_yet means.readings xs s (fates_kept means xs s reached);
   seals = seals_there means xs s (fates_kept means xs s reached);
 }
 

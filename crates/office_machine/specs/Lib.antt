@@ -2,6 +2,7 @@ pub mod Counted
 pub mod Readings
 pub mod Replies
 pub mod Rule
+pub mod References
 pub mod Orphans
 pub mod Commands
 pub mod Publications
@@ -20,10 +21,12 @@ pub mod Registered
 pub mod Imports
 pub mod PagesAlong
 pub mod Lacking
+pub mod NoParents
 pub mod Releases
 pub mod Order
 pub mod Worlds
 pub mod Fates
+pub mod Folded
 pub mod InTime
 pub mod Outstanding
 pub mod Evaluation

@@ -1,14 +1,11 @@
 -- The specification of commands, a state machine: when a command is refused, and which office an accepted one leaves.
-use Rattle.std.specs.Prelude.{◌≡◌, ℕ, ◌+◌, Bool, false, not, List, [], ◌∷◌, ◌++◌, Option, Some, None, IsSome, max, option_map, option_and_then}
-use Rattle.office_commands.specs.Identified.{repeats_id}
+use Rattle.std.specs.Prelude.{◌≡◌, ℕ, ◌+◌, Bool, not, List, [], ◌∷◌, ◌++◌, Option, Some, None, IsSome, max, option_map, option_and_then}
 use Rattle.office_commands.specs.declared.command.Caller.{Caller}
 use Rattle.office_commands.specs.declared.command.Caller.TheVariants.{Tenderer}
 use Rattle.office_base.specs.declared.records.TendererRow.{TendererRow}
-use Rattle.office_commands.specs.Lots.{lot_id}
 use Rattle.office_commands.specs.declared.commands.Command.{Command}
 use Rattle.office_commands.specs.Rights.{may}
 use Rattle.office_commands.specs.Commands.{IsCommand, kind_of}
-use Rattle.office_commands.specs.declared.commands.Command.TheVariants.{Publish}
 use Rattle.office_values.specs.declared.refusal.Refusal.{Refusal}
 use Rattle.office_values.specs.declared.refusal.Refusal.TheVariants.{Forbidden}
 use Rattle.office_base.specs.declared.records.ReleaseRow.{ReleaseRow}

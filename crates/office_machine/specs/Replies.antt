@@ -1,5 +1,5 @@
 -- The replies of the office to commands and queries, as values.
-use Rattle.std.specs.Prelude.{ℕ, ◌+◌, Bool, true, List, length, Option, Some, None}
+use Rattle.std.specs.Prelude.{ℕ, ◌+◌, Bool, true, List, Option, Some, None}
 use Rattle.office_values.specs.declared.refusal.Thing.TheVariants as things
 use Rattle.office_values.specs.declared.refusal.Refusal.{Refusal}
 use Rattle.office_values.specs.declared.refusal.Refusal.TheVariants.{NoSuch}

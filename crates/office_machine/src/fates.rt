@@ -1,5 +1,6 @@
 //! The laws of the fates of tenders and securities.
 ghost use Rattle.office_machine.specs.Fates.{SecuritiesAreKept, TendersAreKept, PerformancesAreKept};
+ghost use Rattle.office_machine.specs.Folded.{RowsAreFolded};
 
 /// In every reached office, each receipt that was given out has one envelope, and there are no others. The envelope has the digest and the length of the bytes
 /// that came in, and the state that accepted commands gave it. Its seal has these bytes, and exists only while the tender is sealed or opened.
@@ -15,4 +16,10 @@ pub fn securities()
 /// In every reached office, the performance securities are those that were named at accepted signings. The first end of its contract decides the state of each.
 pub fn performances()
     ensures { PerformancesAreKept }
+{}
+
+/// In every reached office, the rows of tenders, seals, securities and performance securities are functions of the accepted commands. Of a tender's row this is
+/// all but what its opening and its examination wrote.
+pub fn rows()
+    ensures { RowsAreFolded }
 {}

@@ -9,6 +9,7 @@ ghost use Rattle.office_machine.specs.InTime.{NoneInTimeAfterLate};
 ghost use Rattle.office_machine.specs.Lacking.{NothingIsLacking};
 ghost use Rattle.office_machine.specs.Late.{LateRulesAreKept};
 ghost use Rattle.office_machine.specs.MergesApart.{FatesReadNoMerges, LooksReadNoMerges, NextReadsNoMerges, PutsReadNoMerges, RefusalsReadNoMerges, RepliesReadNoMerges};
+ghost use Rattle.office_machine.specs.NoParents.{NoKindIsForgotten, NoOwnerIsReplaced, NoParentIsMade};
 ghost use Rattle.office_machine.specs.Order.{LeastIsAnswered, NumbersNeverFall};
 ghost use Rattle.office_machine.specs.Outstanding.{LeftIsBooked, LeftIsKnown};
 ghost use Rattle.office_machine.specs.PagesAlong.{NothingIsTakenAway, PagesAreWholeAlong};
@@ -77,6 +78,14 @@ pub fn parents()
 /// In a reached office, a command that isn't refused finds every row that it needs. No more went from a contract, or from an appropriation, than had come.
 pub fn lacking()
     ensures { NothingIsLacking }
+{}
+
+/// Over any tables, an accepted command that misses no row makes no parent of rows that are there without it, and replaces no row of another owner.
+/// These are all kinds of parents but those that neither a key nor an index finds.
+pub fn no_parents()
+    ensures made { NoParentIsMade }
+    ensures replaced { NoOwnerIsReplaced }
+    ensures kinds { NoKindIsForgotten }
 {}
 
 /// The reply to an accepted award names the winner that the evaluation shows, to the clerk just before it and to everyone just after it. The winner is

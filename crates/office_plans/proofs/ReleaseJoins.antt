@@ -13,7 +13,7 @@ use Rattle.office_base.specs.declared.records.ReleaseRow.{ReleaseRow}
 use Rattle.office_machine.specs.Counted.{releases_in}
 use Rattle.office_commands.specs.Commands.{IsCommand}
 use Rattle.office_machine.specs.Lacking.{is_lacking}
-use Rattle.office_machine.specs.Machine.{Given, effect, publication, publication_puts, refusal_of}
+use Rattle.office_machine.specs.Machine.{Given, effect, publication, publication_puts, puts_of, refusal_of}
 use Rattle.office_machine.specs.OfficeMeans.{office_readings}
 use Rattle.office_publications.specs.Keeping.{CanBeFollowed, FollowsReleases, KeepsItsReleases, ReadsBack, has_last_release, has_release, kept_puts, merge_puts, merged_row}
 use Rattle.office_publications.specs.Merges.{AreSoMany, HasMerge}
@@ -63,17 +63,27 @@ module _ (publisher : Publisher) (x : Given) (r : Released) (p : Publication) (r
       let same : as_row r ≡ row = cc in
       subst (ReadsBack x.before) (kept.release ∙ same) kept.reads
 
+  -- All but the merge is that of the specification, whatever the releases are.
+  all_but : (puts all : List Put) → puts ≡ effect office_readings x → all ≡ puts ++ both → p.release ≡ as_row r
+      → all ≡ puts_of (publishing publisher) x ++ (Compiled p.merge ∷ [])
+  all_but puts all is are row =
+      are ∙ ap (λ ps. ps ++ both) is
+      ∙ ap (λ o. effect office_readings x ++ (Release o ∷ Compiled p.merge ∷ [])) row
+      ∙ sym (append_assoc (effect office_readings x) (Release (as_row r) ∷ []) (Compiled p.merge ∷ []))
+      ∙ ap (λ o. (effect office_readings x ++ publication_puts o) ++ (Compiled p.merge ∷ [])) (sym released.is)
+
   -- The plan has both puts, or it is `Unavailable` because there is too little memory.
   pub is_planned : IsCommand x.command → refusal_of x ≡ None → is_lacking x ≡ false → FollowsReleases publisher x → (puts : List Put) (text : List ℕ) → puts ≡ effect office_readings x
-      → text ≡ reply_text (accepted_reply x) → (KeepsItsReleases x → IsKept x.before r p) → (result : Result Plan Refusal)
+      → text ≡ reply_text (accepted_reply x) → (KeepsItsReleases x → IsKept x.before r p) → p.release ≡ as_row r → (result : Result Plan Refusal)
       → IfOk result (λ (q : Plan). q.puts ≡ puts ++ both) → IfOk result (λ (q : Plan). q.reply ≡ text) → IfErr result (λ why. why ≡ Unavailable)
       → IsPlanned publisher x result
-  is_planned given allowed whole follows puts text is told kept (Ok q) are reply none = record {
+  is_planned given allowed whole follows puts text is told kept row (Ok q) are reply none = record {
     given = given;
     allowed = allowed;
     whole = whole;
     follows = follows;
     put = λ keeps. record { puts = all_put puts q.puts is are (kept keeps); reads = reads_back (kept keeps) };
+    effect = (p.merge ∷ [], all_but puts q.puts is are row);
     reply = reply ∙ told;
   }
-  is_planned given allowed whole follows puts text is told kept (Err why) are reply none = inr none
+  is_planned given allowed whole follows puts text is told kept row (Err why) are reply none = inr none

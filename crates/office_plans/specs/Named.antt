@@ -13,7 +13,7 @@ use Rattle.tender_core.specs.Rules.Cancel.{is_open_lot, cancel_rows}
 use Rattle.tender_core.specs.declared.cancel.CancelRows.{CancelRows}
 use Rattle.tender_core.specs.declared.import.ImportRows.{ImportRows}
 use Rattle.tender_core.specs.declared.publish.PublishRows.{PublishRows}
-use Rattle.office_machine.specs.Orphans.{has_rows}
+use Rattle.office_machine.specs.References.{has_rows}
 use Rattle.office_plans.specs.LookedUp.{with_row}
 
 -- The budget line that a new lot, a stored lot or a row of a budget file names.

@@ -1,5 +1,5 @@
 -- The plan of a command, with the release that it publishes.
-use Rattle.std.specs.Prelude.{◌≡◌, ◌⊎◌, Bool, true, false, Some, None, Result, Ok, Err}
+use Rattle.std.specs.Prelude.{◌≡◌, ◌⊎◌, ◌++◌, Bool, true, false, List, map, Some, None, Result, Ok, Err}
 use Rattle.office_values.specs.declared.refusal.Refusal.{Refusal}
 use Rattle.office_values.specs.declared.refusal.Refusal.TheVariants.{Unavailable}
 use Rattle.office_values.specs.declared.settings.Publisher.{Publisher}
@@ -8,12 +8,15 @@ use Rattle.office_commands.specs.declared.commands.Command.TheVariants as comman
 use Rattle.office_base.specs.Faults.{HasRisen}
 use Rattle.office_base.specs.Shelves.{Meaning}
 use Rattle.office_base.specs.Tables.{Tables}
+use Rattle.office_base.specs.declared.puts.Put.TheVariants as changes
+use Rattle.office_base.specs.declared.records.CompiledRow.{CompiledRow}
 use Rattle.office_commands.specs.Commands.{IsCommand}
 use Rattle.office_machine.specs.Lacking.{is_lacking}
-use Rattle.office_machine.specs.Machine.{Given, done, refusal_of, reply_for, time_of}
+use Rattle.office_machine.specs.Machine.{Given, done, puts_of, refusal_of, reply_for, time_of}
 use Rattle.office_machine.specs.OfficeMeans.{office_readings}
 use Rattle.office_machine.specs.Replies.{Reply}
 use Rattle.office_publications.specs.Keeping.{FollowsReleases, KeepsItsReleases, PublicationReadsBack, kept_puts}
+use Rattle.office_publications.specs.Publishing.{publishing}
 use Rattle.office_plans.specs.Plans.{Plan}
 use Rattle.office_plans.specs.Replies.{reply_text}
 
@@ -26,6 +29,10 @@ pub record IsPut (publisher : Publisher) (x : Given) (planned : Plan) : Type 0 w
   pub puts : planned.puts ≡ kept_puts publisher x
   pub reads : PublicationReadsBack publisher x
 
+-- The planned changes are those of the specification, with its release, and perhaps a merge. This is so whatever the releases of the notice are.
+abbrev pub PutsAllBut : Publisher → Given → Plan → Type 0
+PutsAllBut publisher x planned = (merges : List CompiledRow) × (planned.puts ≡ puts_of (publishing publisher) x ++ map changes.Compiled merges)
+
 -- This is the plan of an accepted command. Its form is allowed, no row that it needs is missing, its release follows the last one of its notice, and its reply is the specification's. If the
 -- notice keeps its releases, the planned changes are the specification's too.
 pub record IsPlan (publisher : Publisher) (x : Given) (planned : Plan) : Type 0 where
@@ -34,6 +41,7 @@ pub record IsPlan (publisher : Publisher) (x : Given) (planned : Plan) : Type 0 
   pub whole : is_lacking x ≡ false
   pub follows : FollowsReleases publisher x
   pub put : KeepsItsReleases x → IsPut publisher x planned
+  pub effect : PutsAllBut publisher x planned
   pub reply : planned.reply ≡ reply_text (accepted_reply x)
 
 -- The result is the plan, the command's refusal, or `Unavailable`.

@@ -5,57 +5,95 @@ ghost use Rattle.office_base.specs.Rows.{holds_of};
 ghost use Rattle.office_base.specs.Shelves.{Looks, LooksUp};
 ghost use Rattle.office_base.specs.Standings.{columns_at};
 ghost use Rattle.office_base.specs.Tables.{award_at, envelope_at};
-ghost use Rattle.office_machine.specs.Orphans.{contract_is_taken, has_rows_of_notice, is_torn, lacks_its_security, lacks_lot, lacks_seal};
+ghost use Rattle.office_machine.specs.Orphans.{contract_is_taken, has_rows_of_notice, is_torn, lacks_its_security, lacks_lot, lacks_seal, reserves_another};
+ghost use Rattle.office_machine.specs.References.{OfAward, OfContract, OfReceipt, is_named};
 ghost use Rattle.office_plans.specs.Named.{is_of_lost_line};
 
+use award_core::sign::SignRows;
 use keyed_table::table::Table;
 use office_base::laws::looks_follow;
-use office_base::records::{ClockRow, EnvelopeRow};
+use office_base::records::{AwardRow, ClockRow, EnvelopeRow, LotRow};
 use office_base::shelf::{Lookups, ShelfFault};
 use office_base::standing::Standing;
 use office_commands::budget::BudgetRow;
 use office_values::given::{AskedNumber, asked};
 use office_values::id::Id;
 
-/// Whether a lot, a tender or a release of this notice exists.
+/// Whether a row of this notice exists.
 pub fn has_rows_of_notice<H: Lookups>(shelf: &mut H, notice: &Id) -> Result<bool, ShelfFault>
     ensures { LooksUp H.meaning shelf.old shelf.new result (λ s found. found ≡ has_rows_of_notice notice.now s) }
 {
     let lots = shelf.list_lots_of_notice(notice)?;
     let tenders = shelf.list_envelopes_of_notice(notice)?;
     let releases = shelf.list_releases_of_notice(notice)?;
-    Ok(!lots.is_empty() || !tenders.is_empty() || !releases.is_empty())
+    let securities = shelf.list_securities_of_notice(notice)?;
+    let awards = shelf.list_awards_of_notice(notice)?;
+    let contracts = shelf.list_contracts_of_notice(notice)?;
+    let late = shelf.get_late(notice)?;
+    let merge = shelf.get_compiled(notice)?;
+    Ok(
+        !lots.is_empty()
+            || !tenders.is_empty()
+            || !releases.is_empty()
+            || !securities.is_empty()
+            || !awards.is_empty()
+            || !contracts.is_empty()
+            || late.is_some()
+            || merge.is_some(),
+    )
 }
 
-/// Whether a tender has the receipt that the next one gets.
+/// Whether a tender has the receipt that the next one gets, or the bytes or the security of such a tender are there.
 pub fn receipt_is_taken<H: Lookups>(shelf: &mut H, clock: &ClockRow) -> Result<bool, ShelfFault>
-    ensures { LooksUp H.meaning shelf.old shelf.new result (λ s found. found ≡ is_some (envelope_at (clock.now.receipts + 1) s)) }
+    ensures { LooksUp H.meaning shelf.old shelf.new result (λ s found.
+        found ≡ (is_some (envelope_at (clock.now.receipts + 1) s) || is_named (OfReceipt (clock.now.receipts + 1)) s)) }
 {
     let next = AskedNumber::read(clock.receipts.get() + 1).unwrap();
-    Ok(shelf.get_envelope(next)?.is_some())
+    let tender = shelf.get_envelope(next)?;
+    let seal = shelf.get_seal(next)?;
+    let security = shelf.get_security(next)?;
+    Ok(tender.is_some() || (seal.is_some() || security.is_some()))
 }
 
-/// Whether the lot has this best tender, and an award has the number that its award would get.
+// Whether entries of this contract or its performance security exist.
+fn has_rows_of_contract<H: Lookups>(
+    shelf: &mut H,
+    contract: AskedNumber,
+) -> Result<bool, ShelfFault>
+    ensures { LooksUp H.meaning shelf.old shelf.new result (λ s found. found ≡ is_named (OfContract contract) s) }
+{
+    let entries = shelf.list_entries_of_contract(contract)?;
+    let performance = shelf.get_performance(contract)?;
+    Ok(!entries.is_empty() || performance.is_some())
+}
+
+/// Whether the lot has this best tender, and an award has the number that its award would get, or a contract of such an award is there.
 pub fn award_is_taken<H: Lookups>(
     shelf: &mut H,
     clock: &ClockRow,
     best: Option<&EnvelopeRow>,
 ) -> Result<bool, ShelfFault>
     ensures { LooksUp H.meaning shelf.old shelf.new result (λ s found.
-        found ≡ (is_some (option_map (λ e. e.now) best.entry) && is_some (award_at (clock.now.awards + 1) s))) }
+        found ≡ (is_some (option_map (λ e. e.now) best.entry) && (is_some (award_at (clock.now.awards + 1) s) || is_named (OfAward (clock.now.awards + 1)) s))) }
 {
     if best.is_none() {
         return Ok(false);
     }
     let next = AskedNumber::read(clock.awards.get() + 1).unwrap();
-    Ok(shelf.get_award(next)?.is_some())
+    let award = shelf.get_award(next)?;
+    let contract = shelf.get_contract(next)?;
+    let entries = shelf.list_entries_of_contract(next)?;
+    let performance = shelf.get_performance(next)?;
+    Ok(award.is_some() || (contract.is_some() || !entries.is_empty() || performance.is_some()))
 }
 
-// Whether a contract has the number of this award.
+// Whether a contract has the number of this award, or its entries or its performance security are there.
 fn contract_is_taken<H: Lookups>(shelf: &mut H, award: AskedNumber) -> Result<bool, ShelfFault>
     ensures { LooksUp H.meaning shelf.old shelf.new result (λ s found. found ≡ contract_is_taken award s) }
 {
-    Ok(shelf.get_contract(award)?.is_some())
+    let contract = shelf.get_contract(award)?;
+    let rows = has_rows_of_contract(shelf, award)?;
+    Ok(contract.is_some() || rows)
 }
 
 /// Whether the seal of this tender is missing, if there is a tender.
@@ -104,7 +142,7 @@ pub fn cant_be_replaced<H: Lookups>(
     envelope: &Option<EnvelopeRow>,
 ) -> Result<bool, ShelfFault>
     ensures { LooksUp H.meaning shelf.old shelf.new result (λ s found.
-        found ≡ (is_some (envelope_at (clock.now.receipts + 1) s) || is_torn s envelope.now)) }
+        found ≡ ((is_some (envelope_at (clock.now.receipts + 1) s) || is_named (OfReceipt (clock.now.receipts + 1)) s) || is_torn s envelope.now)) }
 {
     let taken = receipt_is_taken(shelf, clock)?;
     let seal = lacks_seal(shelf, envelope)?;
@@ -113,17 +151,29 @@ pub fn cant_be_replaced<H: Lookups>(
     Ok(taken || (seal || lot || security))
 }
 
-/// Whether a contract has the number of this award, or the security of the award's tender is missing.
+// Whether the lot of this award reserves another amount than its price, if there are both.
+fn reserves_another(lot: &Option<LotRow>, award: &Option<AwardRow>) -> bool
+    ensures { result ≡ holds_of (reserves_another lot.now) award.now }
+{
+    match (lot, award) {
+        (Some(lot), Some(award)) => lot.reserved.units() != award.price.units(),
+        _ => false,
+    }
+}
+
+/// Whether a contract has the number of this award, the security of the award's tender is missing, or the lot reserves another amount than the award's price.
 pub fn cant_be_signed<H: Lookups>(
     shelf: &mut H,
     award: AskedNumber,
-    envelope: &Option<EnvelopeRow>,
+    rows: &SignRows,
 ) -> Result<bool, ShelfFault>
-    ensures { LooksUp H.meaning shelf.old shelf.new result (λ s found. found ≡ (contract_is_taken award s || holds_of (lacks_its_security s) envelope.now)) }
+    ensures { LooksUp H.meaning shelf.old shelf.new result (λ s found.
+        found ≡ (contract_is_taken award s || (holds_of (lacks_its_security s) rows.now.envelope || holds_of (reserves_another rows.now.lot) rows.now.award))) }
 {
     let taken = contract_is_taken(shelf, award)?;
-    let security = lacks_its_security(shelf, envelope)?;
-    Ok(taken || security)
+    let security = lacks_its_security(shelf, &rows.envelope)?;
+    let another = reserves_another(&rows.lot, &rows.award);
+    Ok(taken || (security || another))
 }
 
 // Whether these lines have the line of this name.

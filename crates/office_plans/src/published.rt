@@ -14,7 +14,7 @@ ghost use Rattle.office_machine.specs.Machine.{Given, effect, refusal_of, time_o
 ghost use Rattle.office_machine.specs.OfficeMeans.{office_readings};
 ghost use Rattle.office_machine.specs.Publications.{published_for};
 ghost use Rattle.office_plans.specs.Published.{IsPlan, IsPlanned, accepted_reply};
-ghost use Rattle.office_plans.specs.Released.{IsKept, IsReleased};
+ghost use Rattle.office_plans.specs.Released.{IsKept, IsReleased, as_row};
 ghost use Rattle.office_plans.specs.Replies.{reply_text};
 ghost use Rattle.office_publications.specs.Events.{event_of};
 ghost use Rattle.office_publications.specs.Keeping.{KeepsReleasesOf, has_last_release, has_release};
@@ -103,6 +103,7 @@ fn keep<H: Lookups>(
     released: Released,
 ) -> Result<Publication, Refusal>
     ensures kept { Looks H.meaning shelf.old shelf.new (λ s. IsStorable (view released.release) → KeepsReleasesOf released.notice s → IfOk result (IsKept s released)) }
+    ensures row { IfOk result (λ p. IsStorable (view released.release) → p.release ≡ as_row released) }
     ensures follows { Looks H.meaning shelf.old shelf.new (λ s. OnOk result (has_last_release released.notice (released.seq - 1) s ≡ true)) }
     ensures next { Looks H.meaning shelf.old shelf.new (λ s. OnOk result (has_release released.notice (released.seq - 1 + 1) s ≡ false)) }
     ensures goes_on { Looks H.meaning shelf.old shelf.new (λ s. OnOk result (HasMerge (ocid_text publisher.now.prefix released.notice) released.notice s)) }

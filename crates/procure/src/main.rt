@@ -10,8 +10,8 @@ use std::env;
 use std::io::ErrorKind;
 use std::process::ExitCode;
 
-// The product's version. CHANGELOG.md has it too, in its first entry. `make release` and the manual page take it from `procure --version`.
-const VERSION: &str = "0.4.0";
+// The product's version: that of the newest entry of CHANGELOG.md. A package has a launcher that prints the commit too (debian/launcher.in).
+const VERSION: &str = "0.5.0";
 
 // The words of the command line. Words that aren't UTF-8 name no job.
 fn words_of(rt: &HostRuntime) -> Result<Vec<String>, ProgramFault> {

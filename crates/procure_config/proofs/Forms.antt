@@ -5,7 +5,7 @@ use Rattle.std.proofs.lemmas.List.Sums.{AllPass-from_list_all, list_all-from_All
 use Rattle.std.proofs.lemmas.Str.{IsUtf8-from_is_utf8, is_utf8-from_IsUtf8}
 use Rattle.office_values.specs.Ids.{IsId, is_id_byte}
 use Rattle.office_values.specs.Texts.{IsTextLine, is_line_byte}
-use Rattle.procure_config.specs.Configuration.{is_id_text, is_line_text, passing}
+use Rattle.procure_config.specs.Configuration.{is_id_text, is_line_text, if_passing}
 
 id_passes : (text : List ℕ) → IsId text → is_id_text text ≡ true
 id_passes text h =
@@ -39,20 +39,20 @@ passes_line text h = record {
 
 -- The value that is read, if its form is given as a fact.
 kept : (test : List ℕ → Bool) (Form : List ℕ → Type 0) (text : List ℕ) → (Form text → test text ≡ true) → (test text ≡ true → Form text)
-    → (r : Option (List ℕ)) → IfSome r (λ t. t ≡ text) → IfSome r (λ _. Form text) → IfNone r (¬ (Form text)) → r ≡ passing test (Some text)
+    → (r : Option (List ℕ)) → IfSome r (λ t. t ≡ text) → IfSome r (λ _. Form text) → IfNone r (¬ (Form text)) → r ≡ if_passing test (Some text)
 kept test Form text passes form None found right none = by (test text) refl
   where
-    by : (b : Bool) → test text ≡ b → None ≡ passing test (Some text)
+    by : (b : Bool) → test text ≡ b → None ≡ if_passing test (Some text)
     by true e = absurd (none (form e))
     by false e = rw e refl
 kept test Form text passes form (Some t) found right none = rw (passes right, found) refl
 
 pub id_kept : (text : List ℕ) (there : Option (List ℕ)) → Some text ≡ there → (r : Option (List ℕ)) → IfSome r (λ t. t ≡ text) → IfSome r (λ _. IsId text)
-    → IfNone r (¬ (IsId text)) → r ≡ passing is_id_text there
+    → IfNone r (¬ (IsId text)) → r ≡ if_passing is_id_text there
 id_kept text there e r found right none = rw (← e) (kept is_id_text IsId text (id_passes text) (passes_id text) r found right none)
 
 pub line_kept : {E : Type 0} (text : List ℕ) (there : Option (List ℕ)) → Some text ≡ there → (r : Result (Option (List ℕ)) E) → IfOk r (λ l. IfSome l (λ t. t ≡ text))
-    → IfOk r (λ l. IfSome l (λ _. IsTextLine text)) → IfOk r (λ l. IfNone l (¬ (IsTextLine text))) → IfOk r (λ l. l ≡ passing is_line_text there)
+    → IfOk r (λ l. IfSome l (λ _. IsTextLine text)) → IfOk r (λ l. IfNone l (¬ (IsTextLine text))) → IfOk r (λ l. l ≡ if_passing is_line_text there)
 line_kept text there e (Ok l) found right none =
     rw (← e) (kept is_line_text IsTextLine text (line_passes text) (passes_line text) l found right none)
 line_kept text there e (Err fault) found right none = tt

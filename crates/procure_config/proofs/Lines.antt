@@ -6,7 +6,7 @@ use Rattle.toml.specs.Data.{Data, Items, item, as_str}
 use Rattle.toml.specs.View.{items_view, view}
 use Rattle.toml.proofs.Views.{items_view-drop}
 use Rattle.toml.specs.declared.value.Value.{Value}
-use Rattle.procure_config.specs.Configuration.{is_line_text, lines_of, passing}
+use Rattle.procure_config.specs.Configuration.{is_line_text, lines_of, if_passing}
 
 -- The value at a place, and the values after it.
 from_here : (values : List Value) (i : ℕ) (value : Value) → i < length values → value ≡ get_or values i value
@@ -15,7 +15,7 @@ from_here values i value h is = items_view-drop values i value h ∙ ap (λ v. i
 
 -- The next value is a line.
 pub one_more : (values : List Value) (i : ℕ) (value : Value) (done : List (List ℕ)) (line : List ℕ) → i < length values → value ≡ get_or values i value
-    → Some line ≡ passing is_line_text (as_str (view value))
+    → Some line ≡ if_passing is_line_text (as_str (view value))
     → option_map (λ more. done ++ more) (lines_of (items_view (drop i values))) ≡ lines_of (items_view values)
     → option_map (λ more. (done ++ line ∷ []) ++ more) (lines_of (items_view (drop (i + 1) values))) ≡ lines_of (items_view values)
 unfolding lines_of
@@ -26,18 +26,18 @@ one_more values i value done line h at is so_far =
     append None = refl
     append (Some lines) = ap Some (append_assoc done (line ∷ []) lines)
 
-    step : (first : Data) (rest : Items) → Some line ≡ passing is_line_text (as_str first) → option_map (λ more. done ++ more) (lines_of (item first rest)) ≡ lines_of (items_view values)
+    step : (first : Data) (rest : Items) → Some line ≡ if_passing is_line_text (as_str first) → option_map (λ more. done ++ more) (lines_of (item first rest)) ≡ lines_of (items_view values)
         → option_map (λ more. (done ++ line ∷ []) ++ more) (lines_of rest) ≡ lines_of (items_view values)
     step first rest passed all = append (lines_of rest) ∙ (rw (← passed) at all)
 
 -- The next value isn't a line.
 pub no_more : (values : List Value) (i : ℕ) (value : Value) (done : List (List ℕ)) → i < length values → value ≡ get_or values i value
-    → None ≡ passing is_line_text (as_str (view value))
+    → None ≡ if_passing is_line_text (as_str (view value))
     → option_map (λ more. done ++ more) (lines_of (items_view (drop i values))) ≡ lines_of (items_view values) → None ≡ lines_of (items_view values)
 unfolding lines_of
 no_more values i value done h at is so_far = step (view value) (items_view (drop (i + 1) values)) is (rw (from_here values i value h at) at so_far)
   where
-    step : (first : Data) (rest : Items) → None ≡ passing is_line_text (as_str first) → option_map (λ more. done ++ more) (lines_of (item first rest)) ≡ lines_of (items_view values)
+    step : (first : Data) (rest : Items) → None ≡ if_passing is_line_text (as_str first) → option_map (λ more. done ++ more) (lines_of (item first rest)) ≡ lines_of (items_view values)
         → None ≡ lines_of (items_view values)
     step first rest passed all = rw (← passed) at all
 

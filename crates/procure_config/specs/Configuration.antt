@@ -38,32 +38,32 @@ abbrev pub is_line_text : List ℕ → Bool
 is_line_text text = nat_le 1 (length text) && nat_le (length text) 200 && list_all is_line_byte text && is_utf8 text
 
 -- The value, if it passes a test.
-abbrev pub passing : {A : Type 0} → (A → Bool) → Option A → Option A
-passing test None = None
-passing test (Some value) = if test value then Some value else None
+abbrev pub if_passing : {A : Type 0} → (A → Bool) → Option A → Option A
+if_passing test None = None
+if_passing test (Some value) = if test value then Some value else None
 
 -- The text at a key, or none if there is no such member or it isn't a text.
-abbrev pub text_at : List ℕ → Members → Option (List ℕ)
-text_at key members = option_and_then as_str (get_member key members)
+abbrev pub text_under : List ℕ → Members → Option (List ℕ)
+text_under key members = option_and_then as_str (get_member key members)
 
 -- The text at a key, if it has this form.
-abbrev pub text_in : (List ℕ → Bool) → List ℕ → Members → Option (List ℕ)
-text_in has_form key members = passing has_form (text_at key members)
+abbrev pub text_of_form : (List ℕ → Bool) → List ℕ → Members → Option (List ℕ)
+text_of_form has_form key members = if_passing has_form (text_under key members)
 
 -- The items of an array, if each of them is a line.
 unfoldable pub lines_of : Items → Option (List (List ℕ))
 lines_of no_items = Some []
 lines_of (item first rest) =
-    option_and_then (λ line. option_map (λ lines. line ∷ lines) (lines_of rest)) (passing is_line_text (as_str first))
+    option_and_then (λ line. option_map (λ lines. line ∷ lines) (lines_of rest)) (if_passing is_line_text (as_str first))
 
 -- The lines of the array at a key, if there are at most 10.
 abbrev pub lines_at : List ℕ → Members → Option (List (List ℕ))
 lines_at key members =
-    passing (λ lines. nat_le (length lines) 10) (option_and_then lines_of (option_and_then as_array (get_member key members)))
+    if_passing (λ lines. nat_le (length lines) 10) (option_and_then lines_of (option_and_then as_array (get_member key members)))
 
 -- The 32 bytes that the text at a key writes in 64 hexadecimal digits.
 abbrev pub digest_at : List ℕ → Members → Option (List ℕ)
-digest_at key members = option_and_then (λ text. result_ok (decode_sized text 32)) (text_at key members)
+digest_at key members = option_and_then (λ text. result_ok (decode_sized text 32)) (text_under key members)
 
 -- The members of the table at a key, or no members if there is no table.
 abbrev pub table_at : List ℕ → Members → Members
@@ -81,23 +81,23 @@ Ok value >>= next = next value
 Err fault >>= next = Err fault
 
 -- The buyer that a table gives, or the first faulty member.
-unfoldable pub buyer_of : Members → Result Buyer SettingsFault
-buyer_of members = do
-  id ← setting_or_fault BuyerId (text_in is_id_text (codes "id") members)
-  name ← setting_or_fault BuyerName (text_in is_line_text (codes "name") members)
+unfoldable pub buyer_in : Members → Result Buyer SettingsFault
+buyer_in members = do
+  id ← setting_or_fault BuyerId (text_of_form is_id_text (codes "id") members)
+  name ← setting_or_fault BuyerName (text_of_form is_line_text (codes "name") members)
   Ok (record { id = id; name = name })
 
 -- The settings that a table gives, or the first faulty member.
 unfoldable pub settings_of : Members → Result Settings SettingsFault
 settings_of members = do
-  prefix ← setting_or_fault Prefix (text_in is_prefix_text (codes "prefix") members)
-  currency ← setting_or_fault Currency (text_in is_currency_code (codes "currency") members)
-  language ← setting_or_fault Language (text_in is_language_code (codes "language") members)
-  base ← setting_or_fault Base (text_in is_line_text (codes "base") members)
-  name ← setting_or_fault Publisher (text_in is_line_text (codes "publisher") members)
+  prefix ← setting_or_fault Prefix (text_of_form is_prefix_text (codes "prefix") members)
+  currency ← setting_or_fault Currency (text_of_form is_currency_code (codes "currency") members)
+  language ← setting_or_fault Language (text_of_form is_language_code (codes "language") members)
+  base ← setting_or_fault Base (text_of_form is_line_text (codes "base") members)
+  name ← setting_or_fault Publisher (text_of_form is_line_text (codes "publisher") members)
   extensions ← setting_or_fault Extensions (lines_at (codes "extensions") members)
   clerk_key ← setting_or_fault ClerkKey (digest_at (codes "clerk_key") members)
-  buyer ← buyer_of (table_at (codes "buyer") members)
+  buyer ← buyer_in (table_at (codes "buyer") members)
   Ok (record {
     publisher = record { prefix = prefix; currency = currency; language = language; base = base; name = name; extensions = extensions; buyer = buyer };
     clerk_key = clerk_key;

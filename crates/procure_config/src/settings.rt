@@ -6,7 +6,7 @@ ghost use Rattle.toml.specs.View.{table_view, array_view, items_view, view};
 ghost use Rattle.office_values.specs.SettingTexts.{is_prefix_text, is_currency_code, is_language_code};
 ghost use Rattle.procure_config.specs.WorkedSettings.{city_text, city_settings};
 ghost use Rattle.procure_config.specs.Configuration as spec;
-ghost use Rattle.procure_config.specs.Configuration.{ReadsAs, name_text, passing, is_id_text, is_line_text, text_at, text_in, lines_of, lines_at, digest_at, table_at, settings_in};
+ghost use Rattle.procure_config.specs.Configuration.{ReadsAs, name_text, if_passing, is_id_text, is_line_text, text_under, text_of_form, lines_of, lines_at, digest_at, table_at, settings_in};
 
 use hex::FromHex;
 use office_values::id::Id;
@@ -78,7 +78,7 @@ fn find<'a>(table: &'a Table, key: &str) -> Option<&'a Value>
 
 // The text at a key.
 fn find_text<'a>(table: &'a Table, key: &str) -> Option<&'a str>
-    ensures { option_map (λ s. s.now) result ≡ text_at key.now (table_view table.now) }
+    ensures { option_map (λ s. s.now) result ≡ text_under key.now (table_view table.now) }
 {
     match find(table, key) {
         Some(value) => value.as_str(),
@@ -87,7 +87,7 @@ fn find_text<'a>(table: &'a Table, key: &str) -> Option<&'a str>
 }
 
 fn read_prefix(table: &Table) -> Option<Prefix>
-    ensures { result ≡ text_in is_prefix_text (codes "prefix") (table_view table.now) }
+    ensures { result ≡ text_of_form is_prefix_text (codes "prefix") (table_view table.now) }
 {
     match find_text(table, "prefix") {
         Some(text) => Prefix::read(text.as_bytes()),
@@ -96,7 +96,7 @@ fn read_prefix(table: &Table) -> Option<Prefix>
 }
 
 fn read_currency(table: &Table) -> Option<Currency>
-    ensures { result ≡ text_in is_currency_code (codes "currency") (table_view table.now) }
+    ensures { result ≡ text_of_form is_currency_code (codes "currency") (table_view table.now) }
 {
     match find_text(table, "currency") {
         Some(text) => Currency::read(text.as_bytes()),
@@ -105,7 +105,7 @@ fn read_currency(table: &Table) -> Option<Currency>
 }
 
 fn read_language(table: &Table) -> Option<Language>
-    ensures { result ≡ text_in is_language_code (codes "language") (table_view table.now) }
+    ensures { result ≡ text_of_form is_language_code (codes "language") (table_view table.now) }
 {
     match find_text(table, "language") {
         Some(text) => Language::read(text.as_bytes()),
@@ -114,7 +114,7 @@ fn read_language(table: &Table) -> Option<Language>
 }
 
 fn read_id(table: &Table) -> Option<Id>
-    ensures { result ≡ text_in is_id_text (codes "id") (table_view table.now) }
+    ensures { result ≡ text_of_form is_id_text (codes "id") (table_view table.now) }
 {
     match find_text(table, "id") {
         Some(text) => Id::read(text.as_bytes()),
@@ -123,7 +123,7 @@ fn read_id(table: &Table) -> Option<Id>
 }
 
 fn read_line(alloc: Global, table: &Table, key: &str) -> Result<Option<TextLine>, AllocError>
-    ensures { IfOk result (λ line. line ≡ text_in is_line_text key.now (table_view table.now)) }
+    ensures { IfOk result (λ line. line ≡ text_of_form is_line_text key.now (table_view table.now)) }
 {
     match find_text(table, key) {
         Some(text) => TextLine::read(alloc, text.as_bytes()),
@@ -142,7 +142,7 @@ fn read_clerk_key(table: &Table) -> Option<[u8; 32]>
 
 // The text of a value, if it is a line.
 fn line_of(alloc: Global, value: &Value) -> Result<Option<TextLine>, AllocError>
-    ensures { IfOk result (λ line. line ≡ passing is_line_text (as_str (view value.now))) }
+    ensures { IfOk result (λ line. line ≡ if_passing is_line_text (as_str (view value.now))) }
 {
     match value.as_str() {
         Some(text) => TextLine::read(alloc, text.as_bytes()),
@@ -208,18 +208,18 @@ fn find_table<'a>(table: &'a Table, key: &str) -> Option<&'a Table>
 }
 
 // The buyer that a table gives.
-#[tactic(auto, unfolding(crate::specs::Configuration::buyer_of))]
+#[tactic(auto, unfolding(crate::specs::Configuration::buyer_in))]
 fn buyer_of(alloc: Global, table: &Table) -> Result<Buyer, SettingsFault>
-    ensures { ReadsAs result (spec.buyer_of (table_view table.now)) }
+    ensures { ReadsAs result (spec.buyer_in (table_view table.now)) }
 {
     let id = setting_or_fault(SettingName::BuyerId, read_id(table))?;
     let name = setting_or_fault(SettingName::BuyerName, read_line(alloc, table, "name")?)?;
     Ok(Buyer { id, name })
 }
 
-#[tactic(auto, unfolding(crate::specs::Configuration::buyer_of, crate::specs::Configuration::setting_or_fault))]
+#[tactic(auto, unfolding(crate::specs::Configuration::buyer_in, crate::specs::Configuration::setting_or_fault))]
 fn read_buyer(alloc: Global, table: &Table) -> Result<Buyer, SettingsFault>
-    ensures { ReadsAs result (spec.buyer_of (table_at (codes "buyer") (table_view table.now))) }
+    ensures { ReadsAs result (spec.buyer_in (table_at (codes "buyer") (table_view table.now))) }
 {
     match find_table(table, "buyer") {
         Some(buyer) => buyer_of(alloc, buyer),

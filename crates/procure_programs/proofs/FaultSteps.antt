@@ -1,5 +1,7 @@
 -- The program's fault for each fault.
 use Rattle.std.proofs.Common.{◌≡◌, ◌⊎◌, inl, inr, ℕ, List, Err, refl, subst, sym, ap, ◌∙◌}
+use Rattle.office_base.specs.declared.shelf.ShelfFault.{ShelfFault}
+use Rattle.office_base.specs.declared.shelf.ShelfFault.TheVariants as shelf
 use Rattle.office_store.specs.declared.found.OpenFault.{OpenFault}
 use Rattle.office_store.specs.declared.found.OpenFault.TheVariants as opening
 use Rattle.procure_config.specs.Configuration.{settings_in}
@@ -7,7 +9,7 @@ use Rattle.procure_config.specs.Faults.{no_memory, of_settings}
 use Rattle.procure_config.specs.declared.fault.ProgramFault.{ProgramFault}
 use Rattle.procure_config.specs.declared.settings.SettingsFault.{SettingsFault}
 use Rattle.procure_config.specs.declared.settings.SettingsFault.TheVariants.{NoMemory, NotToml, Member}
-use Rattle.procure_programs.specs.FaultsTold.{IsOfStore, of_opening}
+use Rattle.procure_programs.specs.FaultsTold.{IsOfStore, of_opening, of_shelf}
 use Rattle.procure_programs.specs.Showing.{IsOfSettings, IsOfText}
 
 pub memory_is : (told : ProgramFault) → told ≡ no_memory → IsOfStore told
@@ -20,6 +22,13 @@ openings opening.NotAnOffice = tt
 
 pub opening_is : (told : ProgramFault) (f : OpenFault) → told ≡ of_opening f → IsOfStore told
 opening_is told f is = subst (λ (t : ProgramFault). IsOfStore t) (sym is) (openings f)
+
+shelves : (f : ShelfFault) → IsOfStore (of_shelf f)
+shelves shelf.NoMemory = refl
+shelves shelf.Store = tt
+
+pub shelf_is : (told : ProgramFault) (f : ShelfFault) → told ≡ of_shelf f → IsOfStore told
+shelf_is told f is = subst (λ (t : ProgramFault). IsOfStore t) (sym is) (shelves f)
 
 all_settings : (f : SettingsFault) → IsOfSettings (of_settings f)
 all_settings NoMemory = refl

@@ -1,5 +1,6 @@
 -- An office that was opened in files continues from their content, in every state in which these are found after they are closed.
-use Rattle.std.proofs.Common.{◌≡◌, inl, inr, Option, Result, Ok, Err, IfOk, ℕ, ◌+◌, ◌≤◌, List, [], ◌∷◌, ◌++◌, length, refl, sym, ap, subst, ◌∙◌, arith, length-append}
+use Rattle.std.proofs.Common.{◌≡◌, inl, inr, Option, Some, None, Result, Ok, Err, IfOk, ℕ, ◌+◌, ◌≤◌, List, [], ◌∷◌, ◌++◌, length, refl, sym, ap, subst, ◌∙◌, arith, length-append}
+use Rattle.std.specs.Prelude.{IfSome}
 use Rattle.std.proofs.Math.Logic.{∥∥₁_elim, ∥∥₁_map}
 use Rattle.std.specs.declared.net.socket_addr.SocketAddrV4.{SocketAddrV4}
 use Rattle.sqlite_disk.specs.declared.Disk.{Ghosts}
@@ -15,21 +16,47 @@ use Rattle.office_values.specs.declared.settings.Publisher.{Publisher}
 use Rattle.office_values.specs.declared.settings.Settings.{Settings}
 use Rattle.office_base.specs.Shelves.{Keeps, Looks, Meaning}
 use Rattle.office_base.specs.Tables.{Tables, IsSorted}
+use Rattle.office_base.specs.Shutting.{Standing}
 use Rattle.office_tables.specs.Steps.{ShowsTables}
 use Rattle.office_publications.specs.Standing.{IsReached}
 use Rattle.office_desk.specs.Desks.{DeskOf}
-use Rattle.office_store.specs.Reopening.{FilesHoldOffice, OpensHeld}
+use Rattle.office_store.specs.Reopening.{FilesHoldOffice, IsHalfClosed, OpensHeld}
 use Rattle.office_store.specs.SqlMeaning.{LeavesNoOther, LeavesShown, sql_meaning}
+use Rattle.office_sums.specs.RememberingMeaning.{remembering, remembering_standing}
 use Rattle.office_wire.specs.Runs.{Step, office_left}
-use Rattle.office_http.specs.Answering.{Held, office_answers}
+use Rattle.office_http.specs.Answering.{Held, StandsAs, office_answers}
 use Rattle.office_http.specs.Joined.{StepsAreKept}
+use Rattle.office_http.specs.Stops.{StopsBy}
 use Rattle.procure_config.specs.declared.fault.ProgramFault.{ProgramFault}
+use Rattle.procure_programs.specs.FaultsTold.{IsOfStore}
 use Rattle.procure_programs.specs.Hosts.{Hosting}
 use Rattle.procure_programs.specs.Placed.{HadOfficeIfUsed, OpensEmpty}
-use Rattle.procure_programs.specs.Serving.{DayIn, DaysFollow, FilesGoOn, HaveOffice, KeysFollow, LedOn, MayBeFound, PrintsFiles, ServesFiles, ServesOpened, StandsIn, StopsIn, WasServed, WasServedRemembering, sql_standing, under_settings}
+use Rattle.procure_programs.specs.Serving.{AreOfOpened, DayIn, DaysFollow, EndsPrinting, EndsServing, FilesGoOn, HalfClosesFiles, HalfPrintsFiles, HalfServesFilesAt, HaveOffice, KeysFollow, LedOn, MayBeFound, PrintsFiles, ServesFiles, ServesFilesAt, ServesOpened, StandsIn, StopsIn, TellsFirst, WasServed, WasServedRemembering, sql_standing, under_settings}
 use Rattle.procure_programs.specs.Showing.{IsPrintout}
+use Rattle.procure_programs.specs.Turns.{AreOfServingAt, ServesAt}
 use Rattle.procure_programs.specs.declared.showing.Printout.{Printout}
-use Rattle.procure_programs.proofs.ServingSteps.{office_on, served_none, served_still, serving_kept}
+use Rattle.procure_programs.proofs.ServingSteps.{office_on, served_none, served_still, serving_kept, stops_none}
+
+-- ---- the steps of the connections
+
+module _ {S X T R W : Type 0} (binds : X → SocketAddrV4 → Option T → X → Type 0) (N : Hosting T R W) (M : Meaning S) (store : Standing S) (network bound : X) (port count : ℕ)
+    (old new : DeskOf S) (result : Result (Unit {0}) ProgramFault) where
+  -- The desk holds the office after the steps of its connections, and a stop leaves only what these steps allow.
+  pub went_after : (it : ServesAt binds N M store network bound port count old new result) → M.honest new.shelf → (h : Held) → StandsAs M old h
+      → (steps : List Step) × (length steps ≤ count) × AreOfServingAt binds N M store network bound port count old new result it h steps
+      × StandsAs M new (office_left office_answers h steps) × StopsBy M old.shelf new.shelf h steps
+  went_after (address, here, inl (none, ended, same)) honest h stands = (
+    [],
+    omega arith,
+    refl,
+    subst (λ (d : DeskOf S). StandsAs M d h) (sym same) stands,
+    subst (λ (d : DeskOf S). StopsBy M old.shelf d.shelf h []) (sym same) (stops_none M old.shelf h),
+  )
+  went_after (address, here, inr (host, last, opens, serves)) honest h stands =
+      let (steps, few, are, went) = serves.1 honest h stands in
+      (steps, few, are, went.stands, went.stops)
+
+-- ---- in files
 
 module _ {D : Type 0} {g : Ghosts D} where
   -- The office that was opened shows the content of the files.
@@ -63,16 +90,63 @@ module _ {D : Type 0} {g : Ghosts D} where
       (steps, few, (in_order, inl (holds_found new.0 files it now found _ shows), left))
 
   -- An office that was opened was served.
-  pub opened_serves : {E X T R W : Type 0} (binds : X → SocketAddrV4 → Option T → Type 0) (N : Hosting T R W) (network : X) (port : ℕ) (image : Image) (settings : Settings) (count : ℕ)
+  pub opened_serves : {E X T R W : Type 0} (binds : X → SocketAddrV4 → Option T → X → Type 0) (N : Hosting T R W) (network bound : X) (port : ℕ) (image : Image) (settings : Settings) (count : ℕ)
       (opened : Connected (FileStore D g) × ℕ) (result : Result ((Connected (FileStore D g) × ℕ) × Result (Unit {0}) ProgramFault) E) → OpensHeld image opened.0 → OpensEmpty image opened.0
       → (HasCleanDisk (file_state opened.0) → LeavesShown (file_state opened.0)) → (HasCleanDisk (file_state opened.0) → LeavesNoOther (file_state opened.0))
       → (HasCleanDisk (file_state opened.0) → HadOfficeIfUsed g image)
       → IfOk result (λ left. WasServed (sql_meaning over_files) count settings opened left.0)
-      → IfOk result (λ left. WasServedRemembering binds N (sql_meaning over_files) (sql_standing over_files) network port count settings opened left.0 left.1)
-      → IfOk result (λ left. ServesOpened binds N network port image settings count left.0 left.1)
-  opened_serves binds N network port image settings count opened (Ok left) held empty sound alone used served turns =
+      → IfOk result (λ left. WasServedRemembering binds N (sql_meaning over_files) (sql_standing over_files) network bound port count settings opened left.0 left.1)
+      → IfOk result (λ left. ServesOpened binds N network bound port image settings count left.0 left.1)
+  opened_serves binds N network bound port image settings count opened (Ok left) held empty sound alone used served turns =
       record { opened = opened; held = held; empty = empty; sound = sound; alone = alone; used = used; served = served; turns = turns }
-  opened_serves binds N network port image settings count opened (Err fault) held empty sound alone used served turns = tt
+  opened_serves binds N network bound port image settings count opened (Err fault) held empty sound alone used served turns = tt
+
+  module _ {X T R W : Type 0} (binds : X → SocketAddrV4 → Option T → X → Type 0) (N : Hosting T R W) (network bound : X) (port : ℕ) (image : Image) (settings : Settings) (count : ℕ) where
+    -- The store holds the office after the steps of the connections, and a stop leaves only what these steps allow.
+    pub steps_of : (last : Connected (FileStore D g) × ℕ) (result : Result (Unit {0}) ProgramFault)
+        (it : ServesOpened binds N network bound port image settings count last result) → HasCleanDisk (file_state last.0)
+        → (h : Held) → h.settings ≡ settings → StandsIn image h
+        → (steps : List Step) × (length steps ≤ count) × AreOfOpened binds N network bound port image settings count last result it h steps
+        × (sql_meaning over_files).holds last (office_left office_answers h steps).tables
+        × IsReached (office_left office_answers h steps).settings.publisher (office_left office_answers h steps).tables
+        × StopsBy (sql_meaning over_files) it.opened last h steps
+    steps_of last result it clean h are (sorted, has, stands) =
+        let shown = shows_files image it.opened.0 it.held it.empty (it.served.0 clean) h.tables has in
+        let honest = subst (sql_meaning over_files).honest (sym it.turns.inside) clean in
+        let (steps, few, of_them, after, stop) = went_after binds N (remembering (sql_meaning over_files)) (remembering_standing (sql_standing over_files)) network bound port count
+        (record { shelf = it.turns.first; settings = settings }) (record { shelf = it.turns.last; settings = it.turns.turns.0 }) result it.turns.turns.1 honest h
+        ((sym are, it.turns.holds h.tables (sorted, shown)), stands) in
+        let holds = subst (λ (s : Connected (FileStore D g) × ℕ). (sql_meaning over_files).holds s (office_left office_answers h steps).tables) it.turns.inside after.0.1.0 in
+        let inside : StopsBy (sql_meaning over_files) it.turns.first.shelf it.turns.last.shelf h steps = record { left = stop.left; sound = stop.sound } in
+        let around : StopsBy (sql_meaning over_files) it.opened it.turns.last.shelf h steps =
+        subst (λ (s : Connected (FileStore D g) × ℕ). StopsBy (sql_meaning over_files) s it.turns.last.shelf h steps) it.turns.around inside in
+        (steps, few, of_them, holds, after.1, subst (λ (s : Connected (FileStore D g) × ℕ). StopsBy (sql_meaning over_files) it.opened s h steps) it.turns.inside around)
+
+    -- The files have the office after the steps of the connections.
+    goes_on_by : (last : Connected (FileStore D g) × ℕ) (files : Files D) (result : Result (Unit {0}) ProgramFault)
+        (it : ServesOpened binds N network bound port image settings count last result) → (AreClean g files.log files.db → IsCopied last.0 files)
+        → AreClean g files.log files.db → (now : Image) → MayBeFound g files now → (h : Held) → h.settings ≡ settings → StandsIn image h
+        → (steps : List Step) × (length steps ≤ count) × AreOfOpened binds N network bound port image settings count last result it h steps
+        × StandsIn now (office_left office_answers h steps)
+    goes_on_by last files result it copied clean now found h are stands =
+        let end = copied clean in
+        let (steps, few, of_them, holds, reached, stop) = steps_of last result it end.was_clean h are stands in
+        (steps, few, of_them, (holds.0, inl (holds_found last.0 files end now found _ holds.1), reached))
+
+    -- The store was closed into these files.
+    pub serves_at : (last : Connected (FileStore D g) × ℕ) (files : Files D) (worked result : Result (Unit {0}) ProgramFault)
+        → ServesOpened binds N network bound port image settings count last worked → (AreClean g files.log files.db → IsCopied last.0 files) → result ≡ worked
+        → ServesFilesAt g binds N network bound port image settings count files result
+    serves_at last files worked result it copied same =
+        subst (λ (r : Result (Unit {0}) ProgramFault). ServesFilesAt g binds N network bound port image settings count files r) (sym same)
+        (record { last = last; served = it; closed = copied; goes_on = goes_on_by last files worked it copied })
+
+    -- The end of serving that ended with a fault.
+    pub ends_by : (fault : ProgramFault) (left : Option (FileStore D g)) → IfSome left (HalfClosesFiles image settings count)
+        → IfSome left (HalfServesFilesAt binds N network bound port image settings count fault) → (left ≡ None → (bound ≡ network) × IsOfStore fault)
+        → EndsServing g binds N network bound port image settings count (Err (fault, left))
+    ends_by fault None half there none = none refl
+    ends_by fault (Some store) half there none = (half, there)
 
   -- The files that the opening found are known from those that the closing leaves.
   pub closes_used : (image : Image) (settings : Settings) (most : ℕ) (old new : Connected (FileStore D g) × ℕ) (files : Files D)
@@ -89,6 +163,21 @@ module _ {D : Type 0} {g : Ghosts D} where
       let it = copied clean in
       subst (λ (r : Result (Unit {0}) ProgramFault). IsPrintout settings printout t before after r) (sym same)
       (looks.1 it.was_clean t (sorted, shows_files image old.0 held blank (looks.0.before it.was_clean) t has))
+
+  -- The closing failed after the text was printed.
+  pub half_prints : (image : Image) (settings : Settings) (printout : Printout) (store : FileStore D g) (before after : Option (List ℕ)) (old new : Connected (FileStore D g) × ℕ)
+      (worked : Result (Unit {0}) ProgramFault) (fault : ProgramFault) → OpensHeld image old.0 → OpensEmpty image old.0
+      → Looks (sql_meaning over_files) old new (λ s. IsPrintout settings printout s before after worked)
+      → IsHalfClosed new.0 store → TellsFirst worked fault → HalfPrintsFiles image settings printout before after fault store
+  half_prints image settings printout store before after old new worked fault held blank looks half told =
+      (worked, told, λ clean t sorted has. looks.1 (half.clean clean) t (sorted, shows_files image old.0 held blank (looks.0.before (half.clean clean)) t has))
+
+  -- The end of printing that ended with a fault.
+  pub prints_by : (image : Image) (settings : Settings) (printout : Printout) (before after : Option (List ℕ)) (fault : ProgramFault) (left : Option (FileStore D g))
+      → IfSome left (HalfClosesFiles image settings 0) → IfSome left (HalfPrintsFiles image settings printout before after fault)
+      → (left ≡ None → (after ≡ before) × IsOfStore fault) → EndsPrinting g image settings printout before after (Err (fault, left))
+  prints_by image settings printout before after fault None half text none = none refl
+  prints_by image settings printout before after fault (Some store) half text none = (half, text)
 
 -- Serving that changes nothing is serving by no step.
 pub kept_served : {S : Type 0} (M : Meaning S) → StepsAreKept → (settings : Settings) (old new : S) → Keeps M old new → WasServed M 0 settings old new

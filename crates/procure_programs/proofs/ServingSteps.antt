@@ -99,9 +99,9 @@ was_served M most settings shelf left begun ended is out before serves =
     (subst (λ (d : DeskOf _). M.honest ended.shelf → M.honest d.shelf) is before, (ended.settings, subst (λ (d : DeskOf _). TakesTurns M most d ended) is serves))
 
 -- The same of its port and its connections.
-pub was_served_at : {S X T R W : Type 0} (binds : X → SocketAddrV4 → Option T → Type 0) (N : Hosting T R W) (M : Meaning S) (store : Standing S) (network : X) (port count : ℕ)
+pub was_served_at : {S X T R W : Type 0} (binds : X → SocketAddrV4 → Option T → X → Type 0) (N : Hosting T R W) (M : Meaning S) (store : Standing S) (network bound : X) (port count : ℕ)
     (settings : Settings) (shelf left : S) (result : Result (Unit {0}) ProgramFault) (begun ended : DeskOf S) → begun ≡ record { shelf = shelf; settings = settings } → left ≡ ended.shelf
-    → ServesAt binds N M store network port count begun ended result → WasServedAt binds N M store network port count settings shelf left result
-was_served_at binds N M store network port count settings shelf left result begun ended is out serves =
-    subst (λ (s : _). WasServedAt binds N M store network port count settings shelf s result) (sym out)
-    (ended.settings, subst (λ (d : DeskOf _). ServesAt binds N M store network port count d ended result) is serves)
+    → ServesAt binds N M store network bound port count begun ended result → WasServedAt binds N M store network bound port count settings shelf left result
+was_served_at binds N M store network bound port count settings shelf left result begun ended is out serves =
+    subst (λ (s : _). WasServedAt binds N M store network bound port count settings shelf s result) (sym out)
+    (ended.settings, subst (λ (d : DeskOf _). ServesAt binds N M store network bound port count d ended result) is serves)

@@ -9,3 +9,6 @@ pub mod Serving
 pub mod Blank
 pub mod PageSize
 pub mod Placed
+pub mod Placing
+pub mod Premises
+pub mod Working

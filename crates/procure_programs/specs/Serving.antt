@@ -1,5 +1,5 @@
 -- The office that is left after it was served over connections.
-use Rattle.std.specs.Prelude.{◌≡◌, ◌⊎◌, ℕ, ◌+◌, ◌≤◌, List, [], length, Option, Result}
+use Rattle.std.specs.Prelude.{◌≡◌, ◌⊎◌, ℕ, ◌+◌, ◌≤◌, false, List, [], ◌∷◌, length, Option, Some, None, Result, Ok, Err}
 use Rattle.std.specs.declared.net.socket_addr.SocketAddrV4.{SocketAddrV4}
 use Rattle.sqlite_disk.specs.declared.Disk.{Ghosts}
 use Rattle.sqlite_disk.specs.declared.Files.{Files}
@@ -21,7 +21,7 @@ use Rattle.office_base.specs.Shutting.{Standing}
 use Rattle.office_base.specs.Tables.{Tables, IsSorted, no_tables}
 use Rattle.office_publications.specs.Standing.{IsReached}
 use Rattle.office_desk.specs.Desks.{DeskOf}
-use Rattle.office_store.specs.Reopening.{FilesHoldOffice, OpensHeld, StandForOffice}
+use Rattle.office_store.specs.Reopening.{FilesHoldOffice, IsHalfClosed, IsPutDown, OpensHeld, StandForOffice}
 use Rattle.office_store.specs.SqlMeaning.{LeavesNoOther, LeavesShown, sql_meaning}
 use Rattle.office_sums.specs.RememberingMeaning.{remembering, remembering_standing}
 use Rattle.office_sums.specs.declared.shelf.RememberingShelf.{RememberingShelf}
@@ -29,10 +29,11 @@ use Rattle.office_wire.specs.Runs.{Step, office_left}
 use Rattle.office_http.specs.Answering.{Held, StandsAs, office_answers}
 use Rattle.office_http.specs.Runs.{WentThrough}
 use Rattle.procure_config.specs.declared.fault.ProgramFault.{ProgramFault}
+use Rattle.procure_programs.specs.FaultsTold.{IsOfStore}
 use Rattle.procure_programs.specs.Hosts.{Hosting}
 use Rattle.procure_programs.specs.Placed.{HadOfficeIfUsed, HoldNothing, OpensEmpty}
 use Rattle.procure_programs.specs.Showing.{IsPrintout}
-use Rattle.procure_programs.specs.Turns.{ServesAt}
+use Rattle.procure_programs.specs.Turns.{AreOfServingAt, ServesAt}
 use Rattle.procure_programs.specs.declared.showing.Printout.{Printout}
 
 -- The desk went through at most this many steps. Its office is the one after them, a stop leaves only what they allow, and all accepted commands are kept.
@@ -49,19 +50,19 @@ WasServed M most settings old new =
 
 -- An office in a store was served under these settings at 127.0.0.1 and this port, and this store and this result are left. Each connection was served as
 -- `ServesAt` says.
-abbrev pub WasServedAt : {S X T R W : Type 0} → (X → SocketAddrV4 → Option T → Type 0) → Hosting T R W → Meaning S → Standing S → X → ℕ → ℕ → Settings → S → S → Result (Unit {0}) ProgramFault → Type 0
-WasServedAt binds N M store network port count settings old new result =
-    (now : Settings) × ServesAt binds N M store network port count (record { shelf = old; settings = settings }) (record { shelf = new; settings = now }) result
+abbrev pub WasServedAt : {S X T R W : Type 0} → (X → SocketAddrV4 → Option T → X → Type 0) → Hosting T R W → Meaning S → Standing S → X → X → ℕ → ℕ → Settings → S → S → Result (Unit {0}) ProgramFault → Type 0
+WasServedAt binds N M store network bound port count settings old new result =
+    (now : Settings) × ServesAt binds N M store network bound port count (record { shelf = old; settings = settings }) (record { shelf = new; settings = now }) result
 
--- An office in a store was served as `WasServedAt` says, in a store around it that remembers the sums of budget lines. That one remembered no line at first, so it
--- held each office that the store inside held.
-pub record WasServedRemembering {S X T R W : Type 0} (binds : X → SocketAddrV4 → Option T → Type 0) (N : Hosting T R W) (M : Meaning S) (store : Standing S) (network : X) (port : ℕ) (count : ℕ) (settings : Settings) (old new : S) (result : Result (Unit {0}) ProgramFault) : Type 0 where
+-- An office in a store was served as `WasServedAt` says, in a store around it that remembers sums of budget lines and numbers of releases. At first that one held
+-- each office that the store inside held (`holds`).
+pub record WasServedRemembering {S X T R W : Type 0} (binds : X → SocketAddrV4 → Option T → X → Type 0) (N : Hosting T R W) (M : Meaning S) (store : Standing S) (network bound : X) (port : ℕ) (count : ℕ) (settings : Settings) (old new : S) (result : Result (Unit {0}) ProgramFault) : Type 0 where
   pub first : RememberingShelf S
   pub last : RememberingShelf S
   pub around : first.shelf ≡ old
-  pub empty : first.known ≡ []
+  pub holds : (t : Tables) → M.holds old t → (remembering M).holds first t
   pub inside : last.shelf ≡ new
-  pub turns : WasServedAt binds N (remembering M) (remembering_standing store) network port count settings first last result
+  pub turns : WasServedAt binds N (remembering M) (remembering_standing store) network bound port count settings first last result
 
 -- Whether a store in SQL is open, and the faults of its disk.
 abbrev pub sql_standing : {S : Type 0} → StoreGhosts S → Standing (Connected S × ℕ)
@@ -69,7 +70,7 @@ sql_standing g = record { is_open = λ shelf. (sql_state g shelf.0).is_open; dis
 
 -- An office was opened in two files with these bytes and served under these settings at 127.0.0.1 and this port, and this store and this result are left. After
 -- the opening, the store showed exactly what the files had, and a stop could leave only that. No office was made over a used log.
-pub record ServesOpened {D : Type 0} {g : Ghosts D} {X T R W : Type 0} (binds : X → SocketAddrV4 → Option T → Type 0) (N : Hosting T R W) (network : X) (port : ℕ) (image : Image) (settings : Settings) (count : ℕ) (left : Connected (FileStore D g) × ℕ) (result : Result (Unit {0}) ProgramFault) : Type 0 where
+pub record ServesOpened {D : Type 0} {g : Ghosts D} {X T R W : Type 0} (binds : X → SocketAddrV4 → Option T → X → Type 0) (N : Hosting T R W) (network bound : X) (port : ℕ) (image : Image) (settings : Settings) (count : ℕ) (left : Connected (FileStore D g) × ℕ) (result : Result (Unit {0}) ProgramFault) : Type 0 where
   pub opened : Connected (FileStore D g) × ℕ
   pub held : OpensHeld image opened.0
   pub empty : OpensEmpty image opened.0
@@ -77,13 +78,25 @@ pub record ServesOpened {D : Type 0} {g : Ghosts D} {X T R W : Type 0} (binds : 
   pub alone : HasCleanDisk (file_state opened.0) → LeavesNoOther (file_state opened.0)
   pub used : HasCleanDisk (file_state opened.0) → HadOfficeIfUsed g image
   pub served : WasServed (sql_meaning over_files) count settings opened left
-  pub turns : WasServedRemembering binds N (sql_meaning over_files) (sql_standing over_files) network port count settings opened left result
+  pub turns : WasServedRemembering binds N (sql_meaning over_files) (sql_standing over_files) network bound port count settings opened left result
 
--- The office of two files was served at this port with this result, and then its store was closed into these files.
-pub record ServesFilesAt {D : Type 0} (g : Ghosts D) {X T R W : Type 0} (binds : X → SocketAddrV4 → Option T → Type 0) (N : Hosting T R W) (network : X) (port : ℕ) (image : Image) (settings : Settings) (count : ℕ) (files : Files D) (result : Result (Unit {0}) ProgramFault) : Type 0 where
-  pub last : Connected (FileStore D g) × ℕ
-  pub served : ServesOpened binds N network port image settings count last result
-  pub closed : AreClean g files.log files.db → IsCopied last.0 files
+-- These are the steps of the connections to the office that was opened.
+abbrev pub AreOfOpened : {D : Type 0} {g : Ghosts D} {X T R W : Type 0} (binds : X → SocketAddrV4 → Option T → X → Type 0) (N : Hosting T R W) (network bound : X) (port : ℕ) (image : Image) (settings : Settings)
+    (count : ℕ) (left : Connected (FileStore D g) × ℕ) (result : Result (Unit {0}) ProgramFault) → ServesOpened binds N network bound port image settings count left result → Held → List Step → Type 0
+AreOfOpened binds N network bound port image settings count left result it h steps =
+    AreOfServingAt binds N (remembering (sql_meaning over_files)) (remembering_standing (sql_standing over_files)) network bound port count
+    (record { shelf = it.turns.first; settings = settings }) (record { shelf = it.turns.last; settings = it.turns.turns.0 }) result it.turns.turns.1 h steps
+
+-- These steps are a beginning of others. The last of them may have been answered `Unavailable` there, and is a whole step here.
+abbrev pub AreBeginning : List Step → List Step → Type 0
+AreBeginning [] steps = Unit {0}
+AreBeginning (y ∷ ys) [] = ⊥
+AreBeginning (y ∷ ys) (x ∷ xs) = ((y ≡ x) × AreBeginning ys xs) ⊎ ((y ≡ record x { busy = false }) × (ys ≡ []))
+
+-- The fault that is reported if a closing fails: that of the work, or else one of the store.
+abbrev pub TellsFirst : Result (Unit {0}) ProgramFault → ProgramFault → Type 0
+TellsFirst (Ok done) fault = IsOfStore fault
+TellsFirst (Err earlier) fault = fault ≡ earlier
 
 -- Two files with these bytes have an office with this content. Either they hold it, or they hold nothing yet and it is the empty office.
 abbrev pub HaveOffice : Image → Tables → Type 0
@@ -111,6 +124,12 @@ abbrev pub PrintsFiles : {D : Type 0} → Ghosts D → Image → Settings → Pr
 PrintsFiles g image settings printout files before after result =
     AreClean g files.log files.db → (t : Tables) → IsSorted t → HaveOffice image t → IsPrintout settings printout t before after result
 
+-- Of the office that two files had this was printed. Then its closing failed, which left this store. This fault is reported.
+abbrev pub HalfPrintsFiles : {D : Type 0} {g : Ghosts D} → Image → Settings → Printout → Option (List ℕ) → Option (List ℕ) → ProgramFault → FileStore D g → Type 0
+HalfPrintsFiles image settings printout before after fault store =
+    (worked : Result (Unit {0}) ProgramFault) × TellsFirst worked fault
+    × (IsClean (view store) → (t : Tables) → IsSorted t → HaveOffice image t → IsPrintout settings printout t before after worked)
+
 -- A day leads from one pair of files to the other, whether these were closed in the end or a stop left them.
 abbrev pub DayIn : Image → Settings → ℕ → Image → Type 0
 DayIn first settings most last = FilesGoOn first settings most last ⊎ StopsIn first settings most last
@@ -119,6 +138,16 @@ DayIn first settings most last = FilesGoOn first settings most last ⊎ StopsIn 
 abbrev pub MayBeFound : {D : Type 0} → Ghosts D → Files D → Image → Type 0
 MayBeFound g files image =
     (now : Image) × ((now ≡ image_of g files) ⊎ outcomes g files.log files.db now) × ((image ≡ now) ⊎ (image ≡ record now { log = [] }))
+
+-- The office of two files was served at this port with this result, and then its store was closed into these files. If the disk returned everything that was
+-- written, the office after the steps of its connections is in every state that may be found of them.
+pub record ServesFilesAt {D : Type 0} (g : Ghosts D) {X T R W : Type 0} (binds : X → SocketAddrV4 → Option T → X → Type 0) (N : Hosting T R W) (network bound : X) (port : ℕ) (image : Image) (settings : Settings) (count : ℕ) (files : Files D) (result : Result (Unit {0}) ProgramFault) : Type 0 where
+  pub last : Connected (FileStore D g) × ℕ
+  pub served : ServesOpened binds N network bound port image settings count last result
+  pub closed : AreClean g files.log files.db → IsCopied last.0 files
+  pub goes_on : AreClean g files.log files.db → (now : Image) → MayBeFound g files now → (h : Held) → h.settings ≡ settings → StandsIn image h
+      → (steps : List Step) × (length steps ≤ count) × AreOfOpened binds N network bound port image settings count last result served h steps
+      × StandsIn now (office_left office_answers h steps)
 
 -- The office in two files was served by at most this many steps, and these files were closed. If the disk returned everything that was written, the office
 -- continues in every state that may be found of them, even in the database file alone.
@@ -131,6 +160,16 @@ ServesFiles g image settings most files =
 abbrev pub StopsFiles : {D : Type 0} {g : Ghosts D} → Image → Settings → ℕ → FileStore D g → Type 0
 StopsFiles image settings most store = IsClean (view store) → (now : Image) → (state store).may_leave now → StopsIn image settings most now
 
+-- The office of two files was served at this port with this result, and then a stop came before the closing. If the disk returned everything that was written,
+-- every state that the stop may leave has the office after a beginning of the steps of its connections.
+pub record StopsFilesAt {D : Type 0} {g : Ghosts D} {X T R W : Type 0} (binds : X → SocketAddrV4 → Option T → X → Type 0) (N : Hosting T R W) (network bound : X) (port : ℕ) (image : Image) (settings : Settings) (count : ℕ) (store : FileStore D g) (result : Result (Unit {0}) ProgramFault) : Type 0 where
+  pub last : Connected (FileStore D g) × ℕ
+  pub served : ServesOpened binds N network bound port image settings count last result
+  pub left : IsPutDown last.0 store
+  pub goes_on : IsClean (view store) → (now : Image) → (state store).may_leave now → (h : Held) → h.settings ≡ settings → StandsIn image h
+      → (steps : List Step) × (length steps ≤ count) × AreOfOpened binds N network bound port image settings count last result served h steps
+      × ∥ ((done : List Step) × AreBeginning done steps × StandsIn now (office_left office_answers h done)) ∥₁
+
 -- these trees are the rows of an office, as its commands left it
 abbrev pub StandsAt : Trees → Held → Type 0
 StandsAt trees h = IsSorted h.tables × StandForOffice h.tables trees × IsReached h.settings.publisher h.tables
@@ -142,6 +181,55 @@ HalfClosesFiles image settings most store =
     IsClean (view store) → (trees : Trees) → recovers store trees
     → (h : Held) → h.settings ≡ settings → StandsIn image h
     → (steps : List Step) × (length steps ≤ most) × StandsAt trees (office_left office_answers h steps)
+
+-- The office of two files was served at this port, and then its closing failed, which left this store. This fault is reported. If the disk returned what was
+-- written, the trees that SQLite may recover are those of the office after a beginning of the steps of its connections.
+pub record HalfServesFilesAt {D : Type 0} {g : Ghosts D} {X T R W : Type 0} (binds : X → SocketAddrV4 → Option T → X → Type 0) (N : Hosting T R W) (network bound : X) (port : ℕ) (image : Image) (settings : Settings) (count : ℕ) (fault : ProgramFault) (store : FileStore D g) : Type 0 where
+  pub last : Connected (FileStore D g) × ℕ
+  pub worked : Result (Unit {0}) ProgramFault
+  pub served : ServesOpened binds N network bound port image settings count last worked
+  pub half : IsHalfClosed last.0 store
+  pub told : TellsFirst worked fault
+  pub goes_on : IsClean (view store) → (trees : Trees) → recovers store trees → (h : Held) → h.settings ≡ settings → StandsIn image h
+      → (steps : List Step) × (length steps ≤ count) × AreOfOpened binds N network bound port image settings count last worked served h steps
+      × (done : List Step) × AreBeginning done steps × StandsAt trees (office_left office_answers h done)
+
+-- The end of serving the office of two files. Its store was closed into files, or its closing failed and left a store. Or serving didn't begin, and no host was
+-- opened.
+abbrev pub EndsServing : {D : Type 0} (g : Ghosts D) {X T R W : Type 0} → (X → SocketAddrV4 → Option T → X → Type 0) → Hosting T R W → X → X → ℕ → Image → Settings → ℕ
+    → Result (Files D × Result (Unit {0}) ProgramFault) (ProgramFault × Option (FileStore D g)) → Type 0
+EndsServing g binds N network bound port image settings count (Ok (files, result)) =
+    ServesFiles g image settings count files × ServesFilesAt g binds N network bound port image settings count files result
+EndsServing g binds N network bound port image settings count (Err (fault, Some store)) =
+    HalfClosesFiles image settings count store × HalfServesFilesAt binds N network bound port image settings count fault store
+EndsServing g binds N network bound port image settings count (Err (fault, None)) = (bound ≡ network) × IsOfStore fault
+
+-- The end of printing of the office of two files, as `EndsServing` says it of serving. If no store is left, nothing was printed.
+abbrev pub EndsPrinting : {D : Type 0} (g : Ghosts D) → Image → Settings → Printout → Option (List ℕ) → Option (List ℕ)
+    → Result (Files D × Result (Unit {0}) ProgramFault) (ProgramFault × Option (FileStore D g)) → Type 0
+EndsPrinting g image settings printout before after (Ok (files, result)) =
+    ServesFiles g image settings 0 files × PrintsFiles g image settings printout files before after result
+EndsPrinting g image settings printout before after (Err (fault, Some store)) =
+    HalfClosesFiles image settings 0 store × HalfPrintsFiles image settings printout before after fault store
+EndsPrinting g image settings printout before after (Err (fault, None)) = (after ≡ before) × IsOfStore fault
+
+-- The result that is reported of a work that left files, a store or nothing.
+abbrev pub told_of : {A B : Type 0} → Result (A × Result (Unit {0}) ProgramFault) (ProgramFault × B) → Result (Unit {0}) ProgramFault
+told_of (Ok (files, result)) = result
+told_of (Err (fault, left)) = Err fault
+
+-- The office of two files was served to some end, and this result was reported.
+abbrev pub RunsFiles : {D : Type 0} (g : Ghosts D) {X T R W : Type 0} → (X → SocketAddrV4 → Option T → X → Type 0) → Hosting T R W → X → X → ℕ → Image → Settings → ℕ
+    → Result (Unit {0}) ProgramFault → Type 0
+RunsFiles {D = D} g binds N network bound port image settings count result =
+    (left : Result (Files D × Result (Unit {0}) ProgramFault) (ProgramFault × Option (FileStore D g)))
+    × EndsServing g binds N network bound port image settings count left × (result ≡ told_of left)
+
+-- The office of two files was printed to some end, and this result was reported.
+abbrev pub RunsPrinting : {D : Type 0} → Ghosts D → Image → Settings → Printout → Option (List ℕ) → Option (List ℕ) → Result (Unit {0}) ProgramFault → Type 0
+RunsPrinting {D = D} g image settings printout before after result =
+    (left : Result (Files D × Result (Unit {0}) ProgramFault) (ProgramFault × Option (FileStore D g)))
+    × EndsPrinting g image settings printout before after left × (result ≡ told_of left)
 
 -- If a day finds the files as another day left them, both together are one day. This is also true of days that end by a stop.
 pub record DaysFollow : Type 0 where

@@ -82,3 +82,9 @@ IsOfSettings _ = ⊥
 -- The text gives no settings, and this is the fault of it. Or memory is too small to read the text.
 abbrev pub IsOfText : List ℕ → ProgramFault → Type 0
 IsOfText text told = (told ≡ no_memory) ⊎ ((why : SettingsFault) × (settings_in text ≡ Err why) × (told ≡ of_settings why))
+
+-- Under the settings that a text gives, this work was done. Or the text gives none and the result is the fault of it. Then everything stayed as it was.
+abbrev pub UnderSettings : List ℕ → Result (Unit {0}) ProgramFault → Type 0 → (Settings → Type 0) → Type 0
+UnderSettings text result Stays Work =
+    ((settings : Settings) × (settings_in text ≡ Ok settings) × Work settings)
+    ⊎ ((told : ProgramFault) × IsOfText text told × (result ≡ Err told) × Stays)

@@ -138,10 +138,17 @@ ServesSteps N M store count before after old new result =
     × (M.honest new.shelf → (h : Held) → StandsAs M old h
     → (steps : List Step) × (length steps ≤ count) × AreOfServing N M store count before after old new result turns h steps × WentThrough M old new h steps)
 
--- An office was served at 127.0.0.1 and this port. If the port isn't free, the result is `Input` and nothing changed. Otherwise this many connections were
--- served in turn, or fewer with a fault (`ServesSteps`).
-abbrev pub ServesAt : {S X T R W : Type 0} → (X → SocketAddrV4 → Option T → Type 0) → Hosting T R W → Meaning S → Standing S → X → ℕ → ℕ → DeskOf S → DeskOf S → Result (Unit {0}) ProgramFault → Type 0
-ServesAt {T = T} binds N M store network port count old new result =
+-- An office was served at 127.0.0.1 and this port. No other host was opened: the one opening leads from the network before to the network after. If the port isn't
+-- free, the result is `Input` and nothing changed. Otherwise this many connections were served in turn, or fewer with a fault (`ServesSteps`).
+abbrev pub ServesAt : {S X T R W : Type 0} → (X → SocketAddrV4 → Option T → X → Type 0) → Hosting T R W → Meaning S → Standing S → X → X → ℕ → ℕ → DeskOf S → DeskOf S → Result (Unit {0}) ProgramFault → Type 0
+ServesAt {T = T} binds N M store network bound port count old new result =
     (address : SocketAddrV4) × IsLoopbackAt port address
-    × ((binds network address None × (result ≡ Err Input) × (new ≡ old))
-    ⊎ ((host : T) × (last : T) × binds network address (Some host) × ServesSteps N M store count host last old new result))
+    × ((binds network address None bound × (result ≡ Err Input) × (new ≡ old))
+    ⊎ ((host : T) × (last : T) × binds network address (Some host) bound × ServesSteps N M store count host last old new result))
+
+-- These are the steps of all connections to an office that was served at a port, in their order: none if the port wasn't free.
+abbrev pub AreOfServingAt : {S X T R W : Type 0} (binds : X → SocketAddrV4 → Option T → X → Type 0) (N : Hosting T R W) (M : Meaning S) (store : Standing S) (network bound : X) (port count : ℕ)
+    (old new : DeskOf S) (result : Result (Unit {0}) ProgramFault) → ServesAt binds N M store network bound port count old new result → Held → List Step → Type 0
+AreOfServingAt binds N M store network bound port count old new result (address, here, inl none) h steps = steps ≡ []
+AreOfServingAt binds N M store network bound port count old new result (address, here, inr (host, last, opens, serves)) h steps =
+    AreOfServing N M store count host last old new result serves.0 h steps

@@ -23,12 +23,12 @@ pub fn settings_of_text(alloc: Global, text: &[u8]) -> Result<Settings, ProgramF
     }
 }
 
-/// The settings in a file: `settings_of_text` of its bytes. A file that can't be read has no settings. The fault is of the settings, or of memory.
-pub fn settings_at(rt: &HostRuntime, path: &str) -> Result<Settings, ProgramFault>
+/// The bytes of the settings' file. No contract can say which they are. The fault is of the settings, or of memory.
+pub fn text_at(rt: &HostRuntime, path: &str) -> Result<Vec<u8>, ProgramFault>
     ensures fault { IfErr result IsOfSettings }
 {
     match fs::read(rt, path) {
-        Ok(text) => settings_of_text(rt.alloc(), &text),
+        Ok(text) => Ok(text),
         Err(error) => Err(of_unread_settings(error)),
     }
 }

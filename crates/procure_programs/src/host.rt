@@ -34,15 +34,15 @@ pub trait Host {
         ensures { events.closes self.old writer ended self.new };
 }
 
-/// The place that opens hosts.
+/// The place that opens hosts. Each opening changes it, so a contract that says what became of it leaves no room for another one.
 pub trait Network {
     type Opened: Host + Drop;
 
-    ghost binds: { Self → Address → Option Self.Opened → Type 0 };
+    ghost binds: { Self → Address → Option Self.Opened → Self → Type 0 };
 
     /// The host that takes the connections to this address. None if the address isn't free, for example because another program has it.
-    fn bind(&self, address: SocketAddrV4) -> Option<Self::Opened>
-        ensures { binds self.now address result };
+    fn bind(&mut self, address: SocketAddrV4) -> Option<Self::Opened>
+        ensures { binds self.old address result self.new };
 }
 
 /// The address at which an office is served: 127.0.0.1, and this port.
@@ -78,9 +78,9 @@ pub struct Computer<'a, N: Net + Clock> {
 impl<'a, N: Net + Clock> Network for Computer<'a, N> {
     type Opened = ListeningHost<'a, N>;
 
-    ghost binds = { λ _ _ _. Unit {0} };
+    ghost binds = { λ _ _ _ _. Unit {0} };
 
-    fn bind(&self, address: SocketAddrV4) -> Option<ListeningHost<'a, N>> {
+    fn bind(&mut self, address: SocketAddrV4) -> Option<ListeningHost<'a, N>> {
         match self.network.bind(SocketAddr::V4(address)) {
             Ok(listener) => Some(ListeningHost {
                 network: self.network,

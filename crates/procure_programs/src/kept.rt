@@ -1,5 +1,5 @@
 //! The work of the programs with an office that is stored, in any kind of store.
-ghost use Rattle.std.specs.Prelude.{◌≡◌, true, IfErr, IfOk, OnOk};
+ghost use Rattle.std.specs.Prelude.{◌≡◌, true, IfErr, IfOk, OnErr, OnOk};
 ghost use Rattle.office_base.specs.Shelves.{Looks};
 ghost use Rattle.procure_programs.specs.FaultsTold.{IsOfStore};
 ghost use Rattle.procure_programs.specs.Hosts.{hosting};
@@ -22,11 +22,12 @@ use std::alloc::Global;
 use std::io::{Read, Write};
 
 /// Serves this many connections to 127.0.0.1 and this port, from an office in this store. Returns the store and the result of serving. Too little memory is the
-/// only reason not to begin; then the store is dropped without being closed, which loses nothing.
+/// only reason not to begin; then the store is dropped without being closed, which loses nothing, and no host
+/// was opened.
 #[tactic(auto, using(crate::proofs::FaultSteps::memory_is))]
 pub(crate) fn serve_office<N: Network, H: StoredShelf + Drop>(
     alloc: Global,
-    network: &N,
+    network: &mut N,
     settings: Settings,
     shelf: H,
     port: u16,
@@ -34,8 +35,9 @@ pub(crate) fn serve_office<N: Network, H: StoredShelf + Drop>(
 ) -> Result<(H, Result<(), ProgramFault>), ProgramFault>
     ensures serves { IfOk result (λ left. WasServed H.meaning count settings shelf left.0) }
     ensures turns { IfOk result (λ left. WasServedAt N.binds (hosting N.Opened.events N.Opened.Reader.remaining N.Opened.Writer.contents)
-        H.meaning H.store network.now port count settings shelf left.0 left.1) }
+        H.meaning H.store network.old network.new port count settings shelf left.0 left.1) }
     ensures fault { IfErr result IsOfStore }
+    ensures unserved { OnErr result (network.new ≡ network.old) }
 {
     let Ok(mut office) = Office::new(alloc, Desk::new(alloc, settings, shelf)) else {
         return Err(no_memory());

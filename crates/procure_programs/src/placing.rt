@@ -1,134 +1,150 @@
 //! Puts an empty database at a path that nothing has yet. Its pages are smaller than those that the ported `sqlite` gives a new file.
 //!
-//! The only way in which a file gets there is `hard_link`, which fails if its name is taken. So no existing file is replaced or written to, whatever it holds.
-//! No contract can name the content of a file. This holds because of the way the module is built, and `tests/store/test_pages.py` tries it.
+//! The calls that change a folder take a second name, but for the link, which fails if its path is taken. So no file that has the path is replaced, written or
+//! removed, whatever it holds. The clause of `place_empty` says so of any folder. No contract can say that a computer's folder is such a one (`HostFolder`).
 
-ghost use Rattle.std.specs.Prelude.{IfErr};
+ghost use Rattle.std.specs.Prelude.{◌≡◌, ◌++◌, true, is_ok, IfErr, IfOk, option_map, string_bytes};
 ghost use Rattle.procure_programs.specs.FaultsTold.{IsOfStore};
+ghost use Rattle.procure_programs.specs.Placing.{FolderEvents, HasNothingBeside, LeavesOneName, Links, PlacesEmpty, PutsNew, WritesAndLinks};
 
 use crate::blank::empty_database;
 use crate::faults::of_unplaced_file;
+use crate::second_name::SecondName;
 use procure_config::fault::ProgramFault;
-use std::fs::{self, File, OpenOptions};
+use std::alloc::{AllocError, Global};
 use std::io::{self, ErrorKind};
-use std::os::unix::fs::{FileExt, MetadataExt, OpenOptionsExt};
-use std::path::PathBuf;
 use std::string::String;
 
 /// The length of a log that has room for a page: its header has 32 bytes, and a page in it begins with 24.
 const WITH_PAGE: u64 = 56;
 
-/// Puts an empty database at the path if nothing has its name. The file is written and synced under a second name, `PATH-procure-new`, and linked to the path.
-/// Then the second name is removed. The store handles any file that exists, even an empty one. It also handles a path with a journal that isn't empty, or with
-/// a log that has no page. A log with pages and no file is refused, because its file is missing.
-pub fn place_empty(rt: &HostRuntime, path: &str) -> Result<(), ProgramFault>
+/// A folder in which a new file is put. The calls that change it are events.
+pub trait Folder {
+    /// The lock of a folder, which is held until it is dropped.
+    type Lock: Drop;
+
+    ghost events: { FolderEvents Self };
+
+    /// The real path of the file that a path names, or none if nothing has the path's name.
+    fn find(&self, path: &str) -> io::Result<Option<String>>
+        ensures { IfOk result (λ found. events.finds self.now path.now (option_map string_bytes found)) };
+
+    /// The length of the file with this name, or 0 if nothing has it. Whatever isn't a file counts as long.
+    fn length(&self, path: &str) -> io::Result<u64>
+        ensures { IfOk result (λ n. events.measures self.now path.now n) };
+
+    /// Whether the file with this real path has this second name too.
+    fn has_second(&self, real: &str, second: &SecondName) -> io::Result<bool>;
+
+    /// Waits until no other start has the folder of this path locked, and locks it.
+    fn lock(&mut self, path: &str) -> io::Result<Self::Lock>
+        ensures { events.locks self.old path.now (is_ok result) self.new };
+
+    /// Writes and syncs a file with this second name. A stopped start may have left one, which it replaces.
+    fn write(&mut self, second: &SecondName, bytes: &[u8]) -> io::Result<()>
+        ensures { events.writes self.old second.now bytes.now (is_ok result) self.new };
+
+    /// Links the file with this second name to a path. `AlreadyExists` if something has the path.
+    fn link(&mut self, second: &SecondName, path: &str) -> io::Result<()>
+        ensures { events.links self.old second.now path.now (is_ok result) self.new };
+
+    /// Removes this second name, if something has it.
+    fn remove(&mut self, second: &SecondName) -> io::Result<()>
+        ensures { events.removes self.old second.now (is_ok result) self.new };
+
+    /// Puts the names of a locked folder on the disk.
+    fn sync(&self, lock: &Self::Lock) -> io::Result<()>;
+}
+
+/// Puts an empty database at the path if nothing has its name. The file is written and synced under its second name, and linked to the path. Then the second
+/// name is removed. The store handles any file that exists, even an empty one. It also handles a path with a journal that isn't empty, or with a log that has no
+/// page. A log with pages and no file is refused, because its file is missing.
+pub fn place_empty<F: Folder>(alloc: Global, folder: &mut F, path: &str) -> Result<(), ProgramFault>
     ensures fault { IfErr result IsOfStore }
+    ensures places { PlacesEmpty F.events path.now folder.old folder.new }
 {
     if path == ":memory:" || path.starts_with("file:") {
         return Ok(());
     }
-    match place_where_free(rt, path) {
+    match place_where_free(alloc, folder, path) {
         Ok(()) => Ok(()),
         Err(error) => Err(of_unplaced_file(error)),
     }
 }
 
-fn place_where_free(rt: &HostRuntime, path: &str) -> io::Result<()> {
-    match fs::canonicalize(rt, path) {
-        Ok(real) => leave_one_name(rt, real.as_str()),
-        Err(error) if error.kind() == ErrorKind::NotFound => {
-            if has_other(rt, path)? {
-                return Ok(());
+fn place_where_free<F: Folder>(alloc: Global, folder: &mut F, path: &str) -> io::Result<()>
+    ensures { PlacesEmpty F.events path.now folder.old folder.new }
+{
+    match folder.find(path)? {
+        Some(real) => leave_one_name(alloc, folder, real.as_str()),
+        None => {
+            if has_nothing_beside(alloc, folder, path)? {
+                return put_new(alloc, folder, path);
             }
-            put_new(rt, path)
+            Ok(())
         }
-        Err(error) => Err(error),
     }
 }
 
-fn second_name(rt: &HostRuntime, path: &str) -> io::Result<String> {
-    Ok(format!(in rt.alloc(); "{path}-procure-new")?)
-}
-
 // A stopped start may have left the file its second name, and the store rejects a file with two names. Another file that has this second name stays.
-fn leave_one_name(rt: &HostRuntime, real: &str) -> io::Result<()> {
-    let beside = second_name(rt, real)?;
-    let file = fs::metadata(rt, real)?;
-    match fs::symlink_metadata(rt, beside.as_str()) {
-        Ok(other) if other.dev() == file.dev() && other.ino() == file.ino() => {
-            let _ = fs::remove_file(rt, beside.as_str());
-        }
-        _ => {}
+fn leave_one_name<F: Folder>(alloc: Global, folder: &mut F, real: &str) -> io::Result<()>
+    ensures { LeavesOneName F.events real.now folder.old folder.new }
+{
+    let second = SecondName::of(alloc, real)?;
+    if folder.has_second(real, &second)? {
+        let _ = folder.remove(&second);
     }
     Ok(())
 }
 
-// Whether there is a log or a journal beside the path that isn't empty. If the log has room for a page, the file that it belongs to is missing, and this fails.
-fn has_other(rt: &HostRuntime, path: &str) -> io::Result<bool> {
-    let log = format!(in rt.alloc(); "{path}-wal")?;
-    let length = length_at(rt, log.as_str())?;
-    if length >= WITH_PAGE {
-        return Err(ErrorKind::Unsupported.into());
-    }
-    let journal = format!(in rt.alloc(); "{path}-journal")?;
-    Ok(length > 0 || length_at(rt, journal.as_str())? > 0)
+fn beside(alloc: Global, path: &str, ending: &str) -> Result<String, AllocError>
+    ensures { IfOk result (λ name. string_bytes name ≡ path.now ++ ending.now) }
+{
+    let mut name = String::from_str(alloc, path)?;
+    name.push_str(ending)?;
+    Ok(name)
 }
 
-// The length of a file, or 0 if nothing has its name. Whatever isn't a file counts as long.
-fn length_at(rt: &HostRuntime, path: &str) -> io::Result<u64> {
-    match fs::symlink_metadata(rt, path) {
-        Ok(found) if found.is_file() => Ok(found.len()),
-        Ok(_) => Ok(u64::MAX),
-        Err(error) if error.kind() == ErrorKind::NotFound => Ok(0),
-        Err(error) => Err(error),
+// Whether no log and no journal beside the path holds a byte. If the log has room for a page, the file that it belongs to is missing, and this fails.
+fn has_nothing_beside<F: Folder>(alloc: Global, folder: &F, path: &str) -> io::Result<bool>
+    ensures { IfOk result (λ is_free. is_free ≡ true → HasNothingBeside F.events folder.now path.now) }
+{
+    let log = beside(alloc, path, "-wal")?;
+    let of_log = folder.length(log.as_str())?;
+    if of_log >= WITH_PAGE {
+        return Err(ErrorKind::Unsupported.into());
     }
+    let journal = beside(alloc, path, "-journal")?;
+    let of_journal = folder.length(journal.as_str())?;
+    Ok(of_log == 0 && of_journal == 0)
 }
 
 // While one start writes and links its file, another start in the same folder waits. Otherwise it could link a file that isn't written yet.
-fn put_new(rt: &HostRuntime, path: &str) -> io::Result<()> {
-    let folder = folder_of(rt, path)?;
-    folder.lock()?;
-    let beside = second_name(rt, path)?;
-    let written = write_beside(rt, beside.as_str());
-    let put = match written {
-        Ok(()) => link_new(rt, beside.as_str(), path),
-        Err(error) => Err(error),
-    };
-    let removed = remove_left(rt, beside.as_str());
+fn put_new<F: Folder>(alloc: Global, folder: &mut F, path: &str) -> io::Result<()>
+    ensures { PutsNew F.events path.now folder.old folder.new }
+{
+    let second = SecondName::of(alloc, path)?;
+    let lock = folder.lock(path)?;
+    let put = write_and_link(folder, &second, path);
+    let removed = folder.remove(&second);
     put?;
     removed?;
-    folder.sync_all()
+    folder.sync(&lock)
 }
 
-fn folder_of(rt: &HostRuntime, path: &str) -> io::Result<File> {
-    let mut folder = PathBuf::from_str(rt.alloc(), path)?;
-    folder.pop();
-    folder.push(".")?;
-    fs::open(rt, folder.as_str())
-}
-
-fn remove_left(rt: &HostRuntime, beside: &str) -> io::Result<()> {
-    match fs::remove_file(rt, beside) {
-        Err(error) if error.kind() == ErrorKind::NotFound => Ok(()),
-        other => other,
-    }
-}
-
-// A stopped start may have left a file of this name.
-fn write_beside(rt: &HostRuntime, beside: &str) -> io::Result<()> {
-    remove_left(rt, beside)?;
-    let new = OpenOptions::new()
-        .write(true)
-        .create_new(true)
-        .mode(0o644)
-        .open(rt, beside)?;
-    new.write_all_at(&empty_database(), 0)?;
-    new.sync_all()
+// The file gets its path once it is written whole.
+fn write_and_link<F: Folder>(folder: &mut F, second: &SecondName, path: &str) -> io::Result<()>
+    ensures { WritesAndLinks F.events second.now path.now folder.old folder.new }
+{
+    folder.write(second, &empty_database())?;
+    link_new(folder, second, path)
 }
 
 // If the name is taken by now, or the file system has no hard links, this puts nothing, and the store opens or makes the file.
-fn link_new(rt: &HostRuntime, beside: &str, path: &str) -> io::Result<()> {
-    match fs::hard_link(rt, beside, path) {
+fn link_new<F: Folder>(folder: &mut F, second: &SecondName, path: &str) -> io::Result<()>
+    ensures { Links F.events second.now path.now folder.old folder.new }
+{
+    match folder.link(second, path) {
         Err(error) => match error.kind() {
             ErrorKind::AlreadyExists | ErrorKind::PermissionDenied | ErrorKind::Unsupported => Ok(
                 (),

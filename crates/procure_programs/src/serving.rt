@@ -85,17 +85,17 @@ pub fn serve<T: Host, H: StoredShelf + Drop>(
     take_turns(alloc, host, office, count)
 }
 
-/// Serves this many connections to 127.0.0.1 and this port, as `serve` does. `Input` also if the port isn't free; then nothing is served.
+/// Serves this many connections to 127.0.0.1 and this port, as `serve` does. No other host is opened. `Input` also if the port isn't free; then nothing is served.
 pub fn serve_at<N: Network, H: StoredShelf + Drop>(
     alloc: Global,
-    network: &N,
+    network: &mut N,
     office: &mut Office<H>,
     port: u16,
     count: u32,
 ) -> Result<(), ProgramFault>
     ensures before { H.meaning.honest office.new.shelf → H.meaning.honest office.old.shelf }
     ensures serves { TakesTurns H.meaning count office.old office.new }
-    ensures at { ServesAt N.binds (hosting N.Opened.events N.Opened.Reader.remaining N.Opened.Writer.contents) H.meaning H.store network.now port count office.old office.new result }
+    ensures at { ServesAt N.binds (hosting N.Opened.events N.Opened.Reader.remaining N.Opened.Writer.contents) H.meaning H.store network.old network.new port count office.old office.new result }
     ensures fault { IfErr result (λ fault. (fault ≡ ProgramFault.Store) ⊎ (fault ≡ ProgramFault.Input)) }
 {
     laws::accounts_and_fates();

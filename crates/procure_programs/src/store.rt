@@ -1,5 +1,5 @@
 //! The programs over an office in a file. Each of them closes the file in the end, so that the file alone is the office.
-ghost use Rattle.std.specs.Prelude.{◌≡◌, true, IfErr, IfOk, IfSome, OnOk};
+ghost use Rattle.std.specs.Prelude.{◌≡◌, true, None, IfErr, IfOk, IfSome, OnErr, OnOk};
 ghost use Rattle.sqlite_wal.specs.Files.{image_at};
 ghost use Rattle.sqlite_wal.specs.Reads.{AreClean};
 ghost use Rattle.sqlite.specs.Closing.{IsCopied};
@@ -10,67 +10,63 @@ ghost use Rattle.office_store.specs.Reopening.{IsHalfClosed, OpensHeld};
 ghost use Rattle.office_store.specs.SqlMeaning.{LeavesNoOther, LeavesShown, sql_meaning};
 ghost use Rattle.procure_programs.specs.FaultsTold.{IsOfStore};
 ghost use Rattle.procure_programs.specs.Hosts.{hosting};
-ghost use Rattle.procure_programs.specs.Placed.{HadOfficeIfUsed, OpensEmpty};
-ghost use Rattle.procure_programs.specs.Serving.{HalfClosesFiles, PrintsFiles, ServesFiles, ServesFilesAt, ServesOpened, StopsFiles, WasServed, WasServedRemembering, sql_standing};
+ghost use Rattle.procure_programs.specs.Placed.{HadOfficeIfUsed, OpensEmpty, TellsRefusal};
+ghost use Rattle.procure_programs.specs.Serving.{HalfClosesFiles, HalfPrintsFiles, HalfServesFilesAt, PrintsFiles, RunsFiles, RunsPrinting, ServesFiles, ServesFilesAt, ServesOpened, StopsFiles, StopsFilesAt, TellsFirst, WasServed, WasServedRemembering, sql_standing};
 ghost use Rattle.procure_programs.specs.Showing.{IsPrintout};
 
 use crate::faults::{of_opening, of_shelf};
-use crate::host::{Computer, Host, Network};
+use crate::files::HostFiles;
+use crate::host::{Host, Network};
 use crate::kept::{print_office, serve_office};
 use crate::placing::place_empty;
-use crate::room::{page_size_at, room_for};
+use crate::room::room_for;
 use crate::showing::Printout;
 use office_http::laws::accounts_and_fates;
 use office_machine::laws::order;
-use office_store::opened::{Opened, Origin};
+use office_store::opened::Opened;
 use office_store::shelf::SqlShelf;
 use office_sums::shelf::RememberingShelf;
 use office_values::settings::Settings;
 use office_wire::watched::WatchedWriter;
 use procure_config::fault::ProgramFault;
-use sqlite::{Alter, FileFrom, FileStore, Files, Start, Unknown};
+use sqlite::{Alter, FileFrom, FileStore, Files, Leftover, Start};
 use sqlite_disk::Disk;
 use std::alloc::Global;
 use std::io::{Read, Write};
 
-// Reports on the standard error if an office was made or migrated as the file was opened. If this can't be written, nothing is lost.
-fn tell_origin(rt: &HostRuntime, path: &str, origin: Origin) {
-    let _ = match origin {
-        Origin::Found => Ok(()),
-        Origin::Migrated => eprintln!(rt;
-            "procure: an office of version 1 in {path} was migrated to version 2"
-        ),
-        Origin::Made => eprintln!(rt; "procure: an empty office was made in {path}"),
-    };
-}
-
 // Opens the office in a file, or makes a new one if the file holds nothing and its log was never used. It reports an office that it made or migrated. If there is
-// no file, the new file has small pages.
+// no file, the new file has small pages. A refusal after the files were opened returns what is left of them.
 #[tactic(auto, using(crate::proofs::FaultSteps::opening_is))]
 fn open_office<S: Start>(
-    rt: &HostRuntime,
+    files: &mut HostFiles<'_>,
     path: &str,
     start: S,
-) -> Result<Opened<FileFrom<S>>, ProgramFault>
+) -> Result<Opened<FileFrom<S>>, (ProgramFault, Option<Leftover<FileFrom<S>>>)>
     ensures held { IfOk result (λ opened. OpensHeld (image_at S.Start) opened.shelf.0) }
     ensures empty { IfOk result (λ opened. OpensEmpty (image_at S.Start) opened.shelf.0) }
     ensures sound { IfOk result (λ opened. HasCleanDisk (file_state opened.shelf.0) → LeavesShown (file_state opened.shelf.0)) }
     ensures alone { IfOk result (λ opened. HasCleanDisk (file_state opened.shelf.0) → LeavesNoOther (file_state opened.shelf.0)) }
     ensures used { IfOk result (λ opened. HasCleanDisk (file_state opened.shelf.0) → HadOfficeIfUsed ⟦<FileFrom<S> as Disk>⟧ (image_at S.Start)) }
-    ensures fault { IfErr result IsOfStore }
+    ensures fault { IfErr result (λ refusal. IsOfStore refusal.0) }
+    ensures refused { IfErr result (λ refusal. IfSome refusal.1 (TellsRefusal (image_at S.Start) refusal.0)) }
 {
-    place_empty(rt, path)?;
-    let room = room_for(page_size_at(rt, path));
-    match SqlShelf::open_from(rt, path, start, room) {
+    let alloc = files.alloc();
+    match place_empty(alloc, files, path) {
+        Ok(()) => {}
+        Err(fault) => return Err((fault, None)),
+    }
+    let room = room_for(files.page_size_at(path));
+    match files.open(path, start, room) {
         Ok(opened) => {
-            tell_origin(rt, path, opened.origin);
+            files.tell_origin(path, opened.origin);
             Ok(opened)
         }
-        Err((fault, _)) => Err(of_opening(fault)),
+        Err((fault, left)) => Err((of_opening(fault), left)),
     }
 }
 
 // Closes the store, and returns its files with the result of the work. If it can't be closed, it returns the store, and a fault of the work is reported first.
+#[tactic(auto, using(crate::proofs::FaultSteps::shelf_is))]
 fn close_office<D: Disk + Drop>(
     shelf: SqlShelf<FileStore<D>>,
     worked: Result<(), ProgramFault>,
@@ -78,6 +74,7 @@ fn close_office<D: Disk + Drop>(
     ensures closed { IfOk result (λ left. AreClean D.Disk left.0.log left.0.db → IsCopied shelf.0 left.0) }
     ensures worked { IfOk result (λ left. left.1 ≡ worked) }
     ensures half { IfErr result (λ left. IsHalfClosed shelf.0 left.1) }
+    ensures told { IfErr result (λ left. TellsFirst worked left.0) }
 {
     match shelf.close_files() {
         Ok(files) => Ok((files, worked)),
@@ -99,7 +96,7 @@ fn let_go<D: Disk + Drop>(store: Option<FileStore<D>>) {
 // again for a store over files.
 fn serve_shelf<N: Network, A: Alter + Drop>(
     alloc: Global,
-    network: &N,
+    network: &mut N,
     settings: Settings,
     shelf: SqlShelf<A>,
     port: u16,
@@ -107,8 +104,9 @@ fn serve_shelf<N: Network, A: Alter + Drop>(
 ) -> Result<(SqlShelf<A>, Result<(), ProgramFault>), ProgramFault>
     ensures serves { IfOk result (λ left. WasServed (sql_meaning A.Store) count settings shelf left.0) }
     ensures turns { IfOk result (λ left. WasServedRemembering N.binds (hosting N.Opened.events N.Opened.Reader.remaining N.Opened.Writer.contents)
-        (sql_meaning A.Store) (sql_standing A.Store) network.now port count settings shelf left.0 left.1) }
+        (sql_meaning A.Store) (sql_standing A.Store) network.old network.new port count settings shelf left.0 left.1) }
     ensures fault { IfErr result IsOfStore }
+    ensures unserved { OnErr result (network.new ≡ network.old) }
 {
     let first = RememberingShelf::new(alloc, shelf);
     let (last, served) = serve_office(alloc, network, settings, first, port, count)?;
@@ -131,26 +129,30 @@ fn print_shelf<A: Alter + Drop, W: Write>(
 
 // Opens the office in a file and serves this many connections from it.
 fn serve_open<N: Network, S: Start>(
-    rt: &HostRuntime,
-    network: &N,
+    files: &mut HostFiles<'_>,
+    network: &mut N,
     settings: Settings,
     path: &str,
     start: S,
     port: u16,
     count: u32,
 ) -> Result<(SqlShelf<FileStore<FileFrom<S>>>, Result<(), ProgramFault>), ProgramFault>
-    ensures serves { IfOk result (λ left. ServesOpened N.binds (hosting N.Opened.events N.Opened.Reader.remaining N.Opened.Writer.contents) network.now port (image_at S.Start) settings count left.0 left.1) }
+    ensures serves { IfOk result (λ left. ServesOpened N.binds (hosting N.Opened.events N.Opened.Reader.remaining N.Opened.Writer.contents) network.old network.new port (image_at S.Start) settings count left.0 left.1) }
     ensures fault { IfErr result IsOfStore }
+    ensures unserved { OnErr result (network.new ≡ network.old) }
 {
-    let opened = open_office(rt, path, start)?;
-    serve_shelf(rt.alloc(), network, settings, opened.shelf, port, count)
+    let opened = match open_office(files, path, start) {
+        Ok(opened) => opened,
+        Err((fault, _)) => return Err(fault),
+    };
+    serve_shelf(files.alloc(), network, settings, opened.shelf, port, count)
 }
 
 /// The state that a stop of `serve_from` leaves. The stop comes between two connections, or at any write of a command if the disk accepts nothing from some
 /// call on. This function goes as far as that and doesn't close the files. The next day continues from any content that they then have.
 pub fn stop_from<N: Network, S: Start>(
-    rt: &HostRuntime,
-    network: &N,
+    files: &mut HostFiles<'_>,
+    network: &mut N,
     settings: Settings,
     path: &str,
     start: S,
@@ -158,19 +160,22 @@ pub fn stop_from<N: Network, S: Start>(
     count: u32,
 ) -> Result<(FileStore<FileFrom<S>>, Result<(), ProgramFault>), ProgramFault>
     ensures stops { IfOk result (λ left. StopsFiles (image_at S.Start) settings count left.0) }
+    ensures turns { IfOk result (λ left. StopsFilesAt N.binds (hosting N.Opened.events N.Opened.Reader.remaining N.Opened.Writer.contents)
+        network.old network.new port (image_at S.Start) settings count left.0 left.1) }
+    ensures unserved { OnErr result (network.new ≡ network.old) }
 {
     order();
-    let (shelf, served) = serve_open(rt, network, settings, path, start, port, count)?;
+    let (shelf, served) = serve_open(files, network, settings, path, start, port, count)?;
     Ok((shelf.put_down(), served))
 }
 
 /// Serves this many connections to 127.0.0.1 and this port, from the office in a file. The type `S` says what its two files held, which may be anything. Reports
 /// on the standard error if the office was made or migrated there. Returns the files, which are closed, and the result of serving. If the office couldn't be
-/// closed, as when the program is stopped there, the fault comes with its store; if it wasn't opened, the fault comes alone. `stop_from` says what a stop leaves
-/// before the closing.
+/// closed, as when the program is stopped there, the fault comes with its store. If serving didn't begin, the fault comes alone, and no host was opened.
+/// `stop_from` says what a stop leaves before the closing.
 pub fn serve_from<N: Network, S: Start>(
-    rt: &HostRuntime,
-    network: &N,
+    files: &mut HostFiles<'_>,
+    network: &mut N,
     settings: Settings,
     path: &str,
     start: S,
@@ -182,12 +187,15 @@ pub fn serve_from<N: Network, S: Start>(
 >
     ensures serves { IfOk result (λ left. ServesFiles ⟦<FileFrom<S> as Disk>⟧ (image_at S.Start) settings count left.0) }
     ensures turns { IfOk result (λ left. ServesFilesAt ⟦<FileFrom<S> as Disk>⟧ N.binds (hosting N.Opened.events N.Opened.Reader.remaining N.Opened.Writer.contents)
-        network.now port (image_at S.Start) settings count left.0 left.1) }
+        network.old network.new port (image_at S.Start) settings count left.0 left.1) }
     ensures used { IfOk result (λ left. AreClean ⟦<FileFrom<S> as Disk>⟧ left.0.log left.0.db → HadOfficeIfUsed ⟦<FileFrom<S> as Disk>⟧ (image_at S.Start)) }
     ensures half { IfErr result (λ left. IfSome left.1 (HalfClosesFiles (image_at S.Start) settings count)) }
+    ensures half_at { IfErr result (λ left. IfSome left.1 (HalfServesFilesAt N.binds (hosting N.Opened.events N.Opened.Reader.remaining N.Opened.Writer.contents)
+        network.old network.new port (image_at S.Start) settings count left.0)) }
+    ensures unserved { IfErr result (λ left. left.1 ≡ None → (network.new ≡ network.old) × IsOfStore left.0) }
 {
     order();
-    let (shelf, served) = match serve_open(rt, network, settings, path, start, port, count) {
+    let (shelf, served) = match serve_open(files, network, settings, path, start, port, count) {
         Ok(left) => left,
         Err(fault) => return Err((fault, None)),
     };
@@ -200,7 +208,7 @@ pub fn serve_from<N: Network, S: Start>(
 /// Prints the text that the public sees of the office in a file, whatever its two files held. Reports on the standard error if the office was made or migrated
 /// there. Nothing else changes. Returns the files and the result, as `serve_from` does.
 pub fn print_from<S: Start, W: Write>(
-    rt: &HostRuntime,
+    files: &mut HostFiles<'_>,
     settings: Settings,
     path: &str,
     start: S,
@@ -216,75 +224,62 @@ pub fn print_from<S: Start, W: Write>(
     ensures flushed { IfOk result (λ left. OnOk left.1 (output.new.is_flushed ≡ true)) }
     ensures used { IfOk result (λ left. AreClean ⟦<FileFrom<S> as Disk>⟧ left.0.log left.0.db → HadOfficeIfUsed ⟦<FileFrom<S> as Disk>⟧ (image_at S.Start)) }
     ensures half { IfErr result (λ left. IfSome left.1 (HalfClosesFiles (image_at S.Start) settings 0)) }
+    ensures half_text { IfErr result (λ left. IfSome left.1 (HalfPrintsFiles (image_at S.Start) settings printout output.old.contents output.new.contents left.0)) }
+    ensures unprinted { IfErr result (λ left. left.1 ≡ None → (output.new.contents ≡ output.old.contents) × IsOfStore left.0) }
 {
     order();
     accounts_and_fates();
-    let opened = match open_office(rt, path, start) {
+    let opened = match open_office(files, path, start) {
         Ok(opened) => opened,
-        Err(fault) => return Err((fault, None)),
+        Err((fault, _)) => return Err((fault, None)),
     };
-    let (shelf, printed) = print_shelf(rt.alloc(), settings, opened.shelf, printout, output);
+    let (shelf, printed) = print_shelf(files.alloc(), settings, opened.shelf, printout, output);
     match close_office(shelf, printed) {
         Ok(left) => Ok(left),
         Err((fault, store)) => Err((fault, Some(store))),
     }
 }
 
-/// `serve_from` with `Unknown`, of which no contract says anything unless the file is empty. The proof is that of `serve_from`, whose code is the same for every
-/// content of the files. Whatever is left of the files is closed.
-pub fn serve_path<N: Network>(
-    rt: &HostRuntime,
-    network: &N,
+/// `serve_from`, whose files are let go: whatever is left of them is closed. The clause says of some files what `serve_from` says of its files. So it says at which
+/// port the office was served, under which settings, for how many connections, and which result is reported.
+pub fn serve_path<N: Network, S: Start>(
+    files: &mut HostFiles<'_>,
+    network: &mut N,
     settings: Settings,
     path: &str,
+    start: S,
     port: u16,
     count: u32,
-) -> Result<(), ProgramFault> {
-    match serve_from(rt, network, settings, path, Unknown, port, count) {
-        Ok((_files, served)) => served,
-        Err((fault, store)) => {
-            let_go(store);
-            Err(fault)
+) -> Result<(), ProgramFault>
+    ensures { RunsFiles ⟦<FileFrom<S> as Disk>⟧ N.binds (hosting N.Opened.events N.Opened.Reader.remaining N.Opened.Writer.contents)
+        network.old network.new port (image_at S.Start) settings count result }
+{
+    match serve_from(files, network, settings, path, start, port, count) {
+        Ok(served) => served.1,
+        Err(left) => {
+            let_go(left.1);
+            Err(left.0)
         }
     }
 }
 
-/// `serve_path` for `main`, over the computer's sockets and clock.
-pub fn serve_file(
-    rt: &HostRuntime,
+/// `print_from`, whose files are let go, as `serve_path` lets go those of `serve_from`.
+pub fn print_path<S: Start, W: Write>(
+    files: &mut HostFiles<'_>,
     settings: Settings,
     path: &str,
-    port: u16,
-    count: u32,
-) -> Result<(), ProgramFault> {
-    let computer = Computer { network: rt };
-    serve_path(rt, &computer, settings, path, port, count)
-}
-
-/// `print_from` with `Unknown`, as `serve_path` serves.
-pub fn print_path<W: Write>(
-    rt: &HostRuntime,
-    settings: Settings,
-    path: &str,
+    start: S,
     printout: Printout,
     output: &mut WatchedWriter<W>,
-) -> Result<(), ProgramFault> {
-    match print_from(rt, settings, path, Unknown, printout, output) {
-        Ok((_files, printed)) => printed,
-        Err((fault, store)) => {
-            let_go(store);
-            Err(fault)
+) -> Result<(), ProgramFault>
+    ensures runs { RunsPrinting ⟦<FileFrom<S> as Disk>⟧ (image_at S.Start) settings printout output.old.contents output.new.contents result }
+    ensures flushed { OnOk result (output.new.is_flushed ≡ true) }
+{
+    match print_from(files, settings, path, start, printout, output) {
+        Ok(printed) => printed.1,
+        Err(left) => {
+            let_go(left.1);
+            Err(left.0)
         }
     }
-}
-
-/// `print_path` for `main`, on the standard output.
-pub fn print_file(
-    rt: &HostRuntime,
-    settings: Settings,
-    path: &str,
-    printout: Printout,
-) -> Result<(), ProgramFault> {
-    let mut output = WatchedWriter::new(rt.stdout());
-    print_path(rt, settings, path, printout, &mut output)
 }

@@ -1,13 +1,16 @@
-//! An office in a file that is served on two days and then printed, as the program does it: with the settings from their file, and over real files. Only the
-//! sockets and the output are a test's own. A program that begins each day with an empty office fails here.
+//! An office in a file that is served on two days and then printed. The program's jobs do it, under the settings of a text, and over real files. Only the sockets and
+//! the output are a test's own. A program that begins each day with an empty office fails here. Before each day, starts are stopped at each of the calls
+//! by which they put a new file at the path.
 use crate::sockets::{Day, Sockets, is_all_told, new_sockets};
-use office_commands::queries::Query;
 use office_wire::watched::WatchedWriter;
 use procure_config::fault::ProgramFault;
-use procure_programs::config::settings_at;
+use procure_config::job::Job;
+use procure_programs::files::HostFiles;
 use procure_programs::host::Computer;
-use procure_programs::showing::Printout;
-use procure_programs::store::{print_path, serve_path};
+use procure_programs::jobs::work_on;
+use procure_programs::placing::{Folder, place_empty};
+use procure_programs::second_name::SecondName;
+use sqlite::Unknown;
 use std::string::String;
 use std::{env, fs, io, process};
 
@@ -18,11 +21,10 @@ const SETTINGS: &str =
 static LEDGER: &[u8] =
     b"LEDGER\nline\tappropriation\tfree\treserved\tcontracted\tpaid\n1000\t700\t700\t0\t0\t0\n";
 
-/// The paths of a test: its folder, and in it the settings and the office.
+/// The paths of a test: its folder, and in it the office.
 #[derive(Drop)]
 struct Paths {
     folder: String,
-    settings: String,
     office: String,
 }
 
@@ -34,52 +36,141 @@ fn paths_of(rt: &HostRuntime) -> io::Result<Paths> {
         temporary.as_str(),
         process::id(rt.process())
     )?;
-    let settings = format!(in alloc; "{folder}/office.toml")?;
     let office = format!(in alloc; "{folder}/office.db")?;
-    Ok(Paths {
-        folder,
-        settings,
-        office,
-    })
+    Ok(Paths { folder, office })
 }
 
-// Serves four connections of a day, from the settings and the office at these paths.
-fn serve_day(rt: &HostRuntime, at: &Paths, sockets: &Sockets) -> Result<(), ProgramFault> {
-    let settings = settings_at(rt, at.settings.as_str())?;
-    let computer = Computer { network: sockets };
-    serve_path(rt, &computer, settings, at.office.as_str(), 8083, 4)
+/// The files of a computer, and the number of calls until the start that makes them is stopped. From then on every call fails and changes nothing.
+#[derive(Drop)]
+struct StoppedFiles<'a> {
+    files: HostFiles<'a>,
+    left: usize,
 }
 
-// Whether a day is served whole. On the first a budget file is taken in, and a reader sees its line. On a later day the file is refused, since its name is taken,
-// and a reader sees the same.
+impl<'a> StoppedFiles<'a> {
+    fn goes_on(&mut self) -> io::Result<()> {
+        if self.left == 0 {
+            return Err(io::ErrorKind::Other.into());
+        }
+        self.left -= 1;
+        Ok(())
+    }
+}
+
+impl<'a> Folder for StoppedFiles<'a> {
+    type Lock = fs::File;
+
+    ghost events = { record {
+      finds = λ _ _ _. Unit {0};
+      measures = λ _ _ _. Unit {0};
+      locks = λ _ _ _ _. Unit {0};
+      writes = λ _ _ _ _ _. Unit {0};
+      links = λ _ _ _ _ _. Unit {0};
+      removes = λ _ _ _ _. Unit {0};
+    } };
+
+    fn find(&self, path: &str) -> io::Result<Option<String>> {
+        self.files.find(path)
+    }
+
+    fn length(&self, path: &str) -> io::Result<u64> {
+        self.files.length(path)
+    }
+
+    fn has_second(&self, real: &str, second: &SecondName) -> io::Result<bool> {
+        self.files.has_second(real, second)
+    }
+
+    fn lock(&mut self, path: &str) -> io::Result<fs::File> {
+        self.goes_on()?;
+        self.files.lock(path)
+    }
+
+    fn write(&mut self, second: &SecondName, bytes: &[u8]) -> io::Result<()> {
+        self.goes_on()?;
+        self.files.write(second, bytes)
+    }
+
+    fn link(&mut self, second: &SecondName, path: &str) -> io::Result<()> {
+        self.goes_on()?;
+        self.files.link(second, path)
+    }
+
+    fn remove(&mut self, second: &SecondName) -> io::Result<()> {
+        self.goes_on()?;
+        self.files.remove(second)
+    }
+
+    fn sync(&self, lock: &fs::File) -> io::Result<()> {
+        self.files.sync(lock)
+    }
+}
+
+// Starts at this path that are stopped after no call, after one, and so on to the last. Each leaves what the next one finds. Whatever they return is dropped.
+fn stop_starts(rt: &HostRuntime, path: &str) {
+    for left in 0..5 {
+        let mut stopped = StoppedFiles {
+            files: HostFiles::new(rt),
+            left,
+        };
+        let _ = place_empty(rt.alloc(), &mut stopped, path);
+    }
+}
+
+// Does a job over the files, these sockets and an output in memory. Returns the output.
+fn printed_by(rt: &HostRuntime, sockets: &Sockets, job: &Job<'_>) -> Result<Vec<u8>, ProgramFault> {
+    let mut files = HostFiles::new(rt);
+    let mut computer = Computer { network: sockets };
+    let mut output = WatchedWriter::new(Vec::new(rt.alloc()));
+    work_on(
+        &mut files,
+        &mut computer,
+        SETTINGS.as_bytes(),
+        job,
+        Unknown,
+        &mut output,
+    )?;
+    Ok(output.into_inner())
+}
+
+// Whether a day is served whole, after starts that were stopped. On the first a budget file is taken in, and a reader sees its line. On a later day the file is
+// refused, since its name is taken, and a reader sees the same.
 fn has_served(rt: &HostRuntime, at: &Paths, day: Day) -> bool {
+    stop_starts(rt, at.office.as_str());
     let Some(sockets) = new_sockets(rt.alloc(), day) else {
         return false;
     };
-    serve_day(rt, at, &sockets).is_ok() && is_all_told(&sockets)
+    let job = Job::Serve {
+        config: "",
+        store: at.office.as_str(),
+        port: 8083,
+        count: 4,
+    };
+    printed_by(rt, &sockets, &job).is_ok() && is_all_told(&sockets)
 }
 
 // Whether the ledger that is printed has the line.
 fn prints_ledger(rt: &HostRuntime, at: &Paths) -> bool {
-    let Ok(settings) = settings_at(rt, at.settings.as_str()) else {
+    let Some(sockets) = new_sockets(rt.alloc(), Day::Later) else {
         return false;
     };
-    let mut output = WatchedWriter::new(Vec::new(rt.alloc()));
-    let printout = Printout::Seen(Query::Ledger);
-    let is_printed = print_path(rt, settings, at.office.as_str(), printout, &mut output).is_ok();
-    let text = output.into_inner();
-    is_printed && text.as_slice() == LEDGER
+    let job = Job::Ledger {
+        config: "",
+        store: at.office.as_str(),
+    };
+    match printed_by(rt, &sockets, &job) {
+        Ok(text) => text.as_slice() == LEDGER,
+        Err(_) => false,
+    }
 }
 
-// Whether the office lives on: in a folder of its own, which is new, and removed afterwards.
+// Whether the office lives on: in a folder of its own, which is new, and removed afterwards. No start leaves a second name there.
 fn lives_on(rt: &HostRuntime) -> bool {
     let Ok(at) = paths_of(rt) else {
         return false;
     };
     let _ = fs::remove_dir_all(rt, at.folder.as_str());
-    let is_ready = fs::create_dir(rt, at.folder.as_str()).is_ok()
-        && fs::write(rt, at.settings.as_str(), SETTINGS).is_ok();
-    let is_right = is_ready
+    let is_right = fs::create_dir(rt, at.folder.as_str()).is_ok()
         && has_served(rt, &at, Day::First)
         && has_served(rt, &at, Day::Later)
         && prints_ledger(rt, &at);
@@ -89,6 +180,5 @@ fn lives_on(rt: &HostRuntime) -> bool {
 
 #[test]
 fn an_office_lives_on_in_its_file(rt: HostRuntime) {
-    // Tries twice, because a test may refuse one allocation.
-    assert!(rt; lives_on(&rt) || lives_on(&rt));
+    assert!(rt; lives_on(&rt));
 }

@@ -240,12 +240,12 @@ fn is_served<H: StoredShelf + Drop>(
     sockets: &Sockets,
     office: &mut Office<H>,
 ) -> bool {
-    let computer = Computer { network: sockets };
+    let mut computer = Computer { network: sockets };
     let is_refused = matches!(
-        &serve_at(alloc, &computer, office, 8084, 1),
+        &serve_at(alloc, &mut computer, office, 8084, 1),
         Err(ProgramFault::Input)
     );
-    is_refused && serve_at(alloc, &computer, office, 8083, 4).is_ok()
+    is_refused && serve_at(alloc, &mut computer, office, 8083, 4).is_ok()
 }
 
 // Whether an office is served, and each of its connections is answered.

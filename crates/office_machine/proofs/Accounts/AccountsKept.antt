@@ -16,6 +16,7 @@ use Rattle.office_machine.proofs.Accounts.Aside.{kept_published}
 use Rattle.office_machine.proofs.Accounts.Balance.{balanced}
 use Rattle.office_machine.proofs.Accounts.Kept.{AccountsStand}
 use Rattle.office_machine.proofs.Commands.{lawful}
+use Rattle.office_machine.proofs.Commands.Footprint.{touches}
 use Rattle.office_machine.proofs.Accounts.Idle.{idle_keeps}
 use Rattle.office_machine.proofs.Commands.Lawful.{given, KeepsBooks, Idle, Moving}
 use Rattle.office_machine.proofs.Parents.ParentsThere.{parents_there}
@@ -51,8 +52,8 @@ keeps : (readings : Readings) (xs : List Given) (s : Tables) (moment : ℕ) (cal
     → AccountsStand (given s moment caller command ∷ xs) (after_puts (puts_for readings s (max moment s.clock.moment) caller command) s)
 keeps readings xs s moment caller command kept order have own allowed = by (lawful command).accounts
   where
-    by : KeepsBooks command (lawful command).touches → AccountsStand (given s moment caller command ∷ xs) (after_puts (puts_for readings s (max moment s.clock.moment) caller command) s)
-    by (Idle apart idle) = idle_keeps (given s moment caller command) (lawful command).touches apart _ ((lawful command).tail readings s moment caller have allowed) xs (idle s moment caller xs) kept
+    by : KeepsBooks command → AccountsStand (given s moment caller command ∷ xs) (after_puts (puts_for readings s (max moment s.clock.moment) caller command) s)
+    by (Idle apart idle) = idle_keeps (given s moment caller command) (touches command) apart _ ((lawful command).tail readings s moment caller have allowed) xs (idle s moment caller xs) kept
     by (Moving moves) = moves readings xs s moment caller kept order own allowed
 
 pub all_kept : (means : Means) (xs : List Given) (s : Tables) → Reaches means xs s → AccountsStand xs s

@@ -1,4 +1,5 @@
 -- The amendment of a contract keeps the laws of the office.
+pub mod Gentle
 use Rattle.std.specs.Prelude.{max, IsSome, Option}
 use Rattle.std.proofs.Common.{◌≡◌, ℕ, ◌+◌, ◌-◌, ◌≤◌, Bool, true, false, cond, not, ◌&&◌, List, [], ◌∷◌, Some, None, is_some, refl, sym, ◌∙◌, ap, subst, arith, ◌||◌}
 use Rattle.std.specs.List.{AllByRecursion}
@@ -9,7 +10,7 @@ use Rattle.office_commands.specs.declared.contract.ChangeKind.{ChangeKind}
 use Rattle.office_commands.specs.declared.commands.Command.TheVariants.{AmendContract}
 use Rattle.office_commands.specs.declared.commands.Command.TheVariants as commands
 use Rattle.office_commands.specs.declared.contract.ChangeKind.TheVariants as change_kinds
-use Rattle.office_base.specs.Tables.{IsSorted, same_number, Tables, line_at, notice_at, lot_at, contract_at, find_line, put_line, find_entry, put_entry, entries_of_contract, after_puts, of_notice}
+use Rattle.office_base.specs.Tables.{IsSorted, same_number, Tables, line_at, notice_at, lot_at, contract_at, find_line, put_line, find_entry, put_entry, entries_of_contract, after_puts}
 use Rattle.office_base.specs.Rows.{holds_of}
 use Rattle.office_base.specs.Rules.{first_of}
 use Rattle.office_base.specs.Transitions.{with_next_release, clock_put, has_all_releases}
@@ -39,7 +40,6 @@ use Rattle.office_machine.proofs.Accounts.Kept.{AccountsStand, PotsAre, Contract
 use Rattle.office_machine.proofs.Accounts.Joins.{outstanding-own, free-replaced}
 use Rattle.office_machine.proofs.Passed.{none_holds, not_false, not_both, not_all, at_least, witness, test_of, split, neither}
 use Rattle.office_machine.proofs.Accounts.Entered.{not_taken, contracts_are, no_contract_are, gains, losses, payments}
-use Rattle.office_machine.proofs.Commands.Footprint.{Lines, Entries}
 use Rattle.office_machine.proofs.Commands.Lawful.{Lawful, Moving}
 use Rattle.office_machine.proofs.FateLaws.Views.{View}
 use Rattle.office_machine.proofs.FateLaws.Seen.{seen, IsQuiet}
@@ -48,6 +48,7 @@ use Rattle.office_machine.proofs.Worlds.WorldsPut.{IsPlain, plain_pairs}
 use Rattle.office_machine.proofs.Parents.SpokenOf.{of_contract}
 use Rattle.office_machine.proofs.Parents.Whole.{IsWhole, line_there, not_overdrawn}
 use Rattle.office_machine.proofs.Rows.Keyed as keyed
+use Rattle.office_machine.proofs.Commands.AmendContract.Gentle.{amend_contract_gently}
 
 -- the amount that an entry of this kind raises
 is_raised : (kind : ChangeKind) (amount : ℕ) → raised_by kind amount ≡ cond (is_raise (entry_kind kind)) amount 0
@@ -250,19 +251,17 @@ none_lacking xs s whole contract (Some c) is =
 
 pub amend_contract : (contract : ℕ) (entry : List ℕ) (kind : ChangeKind) (amount : ℕ) (rationale : List ℕ) → Lawful (AmendContract contract entry kind amount rationale)
 amend_contract contract entry kind amount rationale = record {
-  touches = Entries ∷ Lines ∷ [];
-  alone = (refl, refl, refl);
-  beside = (refl, refl);
   accounts = Moving (λ readings xs s moment caller kept order own allowed. amend_contract_keeps readings xs s moment caller contract entry kind amount rationale kept order allowed);
   fates = λ readings. fates_kept readings contract entry kind amount rationale;
   tail = λ readings s moment caller have allowed.
       let tests = none_holds (amend_contract_tests (amend_contract_rows s contract) entry kind amount) allowed in
       let of = of_contract s have contract (not_false _ tests.0) in
       moved refl (λ i. amend_contract_puts (record { contract = of.is i; entries = []; notice = of.notice i; line = of.line i; clock = s.clock }) (max moment s.clock.moment) entry kind amount rationale)
-      (front (puts.Entry _ ∷ puts.Line _ ∷ []) (refl, (refl, tt)) (on_contract contract of (neither _ (has_all_releases (notice_of_contract (contract_at contract s) s)) tests.1.1.1.1.1.0).1));
+      (front (puts.Entry _ ∷ puts.Line _ ∷ []) (refl, (refl, tt)) (on_contract contract of refl (neither _ (has_all_releases (notice_of_contract (contract_at contract s) s)) tests.1.1.1.1.1.0).1));
   parents = λ readings s moment caller order have registered may allowed u grown later. parents_of s u have grown s.clock _ contract (contract_at contract s) (notice_of_contract (contract_at contract s) s) (line_of_lot (lot_of_contract (contract_at contract s) s) s) entry kind amount rationale refl;
   lacks = λ xs s moment caller whole allowed. none_lacking xs s whole contract (contract_at contract s) refl;
   alike = λ th W s es' ss' all seals readings t caller quiet.
       plain_pairs th W (amend_contract_puts (record { contract = contract_at contract s; entries = []; notice = (notice_of_contract (contract_at contract s) s); line = (line_of_lot (lot_of_contract (contract_at contract s) s) s); clock = s.clock }) t entry kind amount rationale)
       (plain s.clock t (contract_at contract s) (notice_of_contract (contract_at contract s) s) (line_of_lot (lot_of_contract (contract_at contract s) s) s) entry kind amount rationale);
+  gentle = amend_contract_gently contract entry kind amount rationale;
 }

@@ -1,4 +1,5 @@
 -- The amendment of a notice keeps the laws of the office.
+pub mod Gentle
 use Rattle.std.proofs.Common.{arith, ◌≡◌, ℕ, List, [], ◌∷◌, Option, Some, None, refl}
 use Rattle.std.specs.Prelude.{max}
 use Rattle.tender_core.specs.Rules.AmendNotice.{amended, amend_notice_rows, amend_notice_tests, amend_notice_puts}
@@ -16,6 +17,7 @@ use Rattle.office_machine.proofs.Passed.{none_holds, not_false, neither, witness
 use Rattle.office_machine.proofs.FateLaws.QuietFates.{kept_after, one_more, notice_stands}
 use Rattle.office_machine.proofs.FateLaws.Seen.{seen, IsQuiet}
 use Rattle.office_machine.proofs.Commands.Tail.{moved, loud}
+use Rattle.office_machine.proofs.Commands.AmendNotice.Gentle.{amend_notice_gently}
 
 -- the rows that its rows refer to exist
 parents_of : (u : Tables) (clock : ClockRow) (t : ℕ) (notice : Option NoticeRow) (deadline : ℕ) → AllParents u (amend_notice_puts (record { notice = notice; clock = clock }) t deadline)
@@ -35,9 +37,6 @@ plain clock t (Some n) deadline = (tt, (tt, tt))
 
 pub amend_notice : (notice : List ℕ) (deadline : ℕ) (rationale : List ℕ) → Lawful (AmendNotice notice deadline rationale)
 amend_notice notice deadline rationale = record {
-  touches = [];
-  alone = (refl, refl, refl);
-  beside = (refl, refl);
   accounts = Idle refl (λ s moment caller xs. record { moves_none = refl; held = λ _. refl; none_brought = λ _. refl; none_taken = λ _. refl });
   fates = λ readings xs s moment caller kept own allowed.
       let x = given s moment caller (AmendNotice notice deadline rationale) in
@@ -47,8 +46,9 @@ amend_notice notice deadline rationale = record {
       let tests = none_holds (amend_notice_tests (amend_notice_rows s notice) now deadline) allowed in
       let n = witness (notice_at notice s) (not_false _ tests.0) in
       moved refl (λ i. amend_notice_puts (record { notice = n.1 i; clock = s.clock }) now deadline)
-      (loud notice n.0 (amended deadline n.0) _ [] n.1 (neither _ (has_all_releases (notice_at notice s)) tests.1.1.1.1.0).1 refl refl refl tt refl (omega arith));
+      (loud notice n.0 (amended deadline n.0) _ [] n.1 (neither _ (has_all_releases (notice_at notice s)) tests.1.1.1.1.0).1 refl refl refl refl tt refl (omega arith));
   parents = λ readings s moment caller order have registered may allowed u grown later. parents_of u s.clock _ (notice_at notice s) deadline;
   lacks = λ xs s moment caller whole allowed. refl;
   alike = λ th W s es' ss' all seals readings t caller quiet. plain_pairs th W (amend_notice_puts (record { notice = notice_at notice s; clock = s.clock }) t deadline) (plain s.clock t (notice_at notice s) deadline);
+  gentle = amend_notice_gently notice deadline rationale;
 }

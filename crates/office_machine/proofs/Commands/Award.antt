@@ -1,6 +1,7 @@
 -- The award of a lot keeps the laws of the office.
 pub mod Accounts
 pub mod Fates
+pub mod Gentle
 pub mod Winners
 use Rattle.std.specs.Prelude.{max, IsSome}
 use Rattle.std.proofs.Common.{arith, ◌≡◌, ℕ, false, List, [], ◌∷◌, Option, Some, None, refl, ◌∙◌, ap, Bool, filter, is_some, subst, sym, not, ◌||◌}
@@ -27,7 +28,7 @@ use Rattle.office_machine.proofs.Parents.ParentsPut.{Grows, AllParents, lot_stil
 use Rattle.office_machine.proofs.Worlds.WorldsRows.{pairs-winner, lot_pairs}
 use Rattle.office_machine.proofs.Parents.RowsHave.{lot_securities}
 use Rattle.office_machine.proofs.Commands.Award.Accounts.{award_keeps}
-use Rattle.office_machine.proofs.Commands.Footprint.{Awards, Lots, Lines, Securities}
+use Rattle.office_machine.proofs.Commands.Footprint.{Notices, Awards, Lots, Lines, Securities}
 use Rattle.office_machine.proofs.Commands.Lawful.{Lawful, Moving}
 use Rattle.office_machine.proofs.Passed.{none_holds, not_false, witness}
 use Rattle.office_machine.proofs.Commands.Tail.{HasTail, moved, front, loud, returned_own}
@@ -35,12 +36,13 @@ use Rattle.office_machine.proofs.Rows.Keyed.{all_found}
 use Rattle.office_base.proofs.RowLaws.Keyed.{found_key}
 use Rattle.office_machine.proofs.Commands.Award.Fates as award_fates
 use Rattle.office_machine.proofs.Rows.Keyed as keyed
+use Rattle.office_machine.proofs.Commands.Award.Gentle.{award_gently}
 
 module _ (s : Tables) (now : ℕ) (notice lot : List ℕ) (n : NoticeRow) (l : LotRow) (w : LineRow) (is : notice_at notice s ≡ Some n)
     (full : has_all_releases (notice_at notice s) ≡ false) where
-  decided : (o : Option EnvelopeRow) → HasTail s now (Awards ∷ Lots ∷ Lines ∷ Securities ∷ []) (Some notice) None (decision_puts s.clock now n l w o (securities_of_lot notice lot s))
-  decided None = front (puts.Lot _ ∷ puts.Line _ ∷ []) (refl, (refl, tt)) (loud notice n (with_next_release n) _ _ is full refl refl refl (returned_own (Awards ∷ Lots ∷ Lines ∷ Securities ∷ []) refl (securities_of_lot notice lot s)) refl (omega arith))
-  decided (Some e) = front (puts.Award _ ∷ puts.Lot _ ∷ puts.Line _ ∷ []) (refl, (refl, (refl, tt))) (loud notice n (with_next_release n) _ [] is full refl refl refl tt refl (omega arith))
+  decided : (o : Option EnvelopeRow) → HasTail s now (Notices ∷ Awards ∷ Lots ∷ Lines ∷ Securities ∷ []) (Some notice) None (decision_puts s.clock now n l w o (securities_of_lot notice lot s))
+  decided None = front (puts.Lot _ ∷ puts.Line _ ∷ []) (refl, (refl, tt)) (loud notice n (with_next_release n) _ _ is full refl refl refl refl (returned_own (Notices ∷ Awards ∷ Lots ∷ Lines ∷ Securities ∷ []) refl (securities_of_lot notice lot s)) refl (omega arith))
+  decided (Some e) = front (puts.Award _ ∷ puts.Lot _ ∷ puts.Line _ ∷ []) (refl, (refl, (refl, tt))) (loud notice n (with_next_release n) _ [] is full refl refl refl refl tt refl (omega arith))
 
 module _ (s u : Tables) (have : HaveParents s s) (g : Grows s u) (order : IsSorted s) where
   -- the winner's envelope exists in the office
@@ -98,9 +100,6 @@ none_lacking s have notice lot (Some l) is = ap not (have.lots (notice, lot) l i
 
 pub award : (notice lot : List ℕ) → Lawful (Award notice lot)
 award notice lot = record {
-  touches = Awards ∷ Lots ∷ Lines ∷ Securities ∷ [];
-  alone = (refl, refl, refl);
-  beside = (refl, refl);
   accounts = Moving (λ readings xs s moment caller kept order own allowed. award_keeps readings xs s moment caller notice lot kept allowed);
   fates = λ readings. award_fates.award_keeps readings notice lot;
   tail = λ readings s moment caller have allowed.
@@ -114,7 +113,8 @@ award notice lot = record {
       (decided s now notice lot n.0 l.0 w.0 n.1 tests.1.1.1.1.1.1.1.0 (winner (Some n.0) (envelopes_of_lot notice lot s)));
   parents = λ readings s moment caller order have registered may allowed u grown later. parents_of s u have grown order s.clock _ notice lot (notice_at notice s) (lot_at (notice, lot) s) (line_of_lot (lot_at (notice, lot) s) s) refl;
   lacks = λ xs s moment caller whole allowed.
-      λ i. none_lacking s whole.parents notice lot (lot_at (notice, lot) s) refl i || award_is_new xs s whole.accounts notice lot i;
+      λ i. none_lacking s whole.parents notice lot (lot_at (notice, lot) s) refl i || award_is_new xs s whole notice lot i;
   alike = λ th W s es' ss' all seals readings t caller quiet.
       pairs th W s.clock t (notice_at notice s) (lot_at (notice, lot) s) (line_of_lot (lot_at (notice, lot) s) s) (envelopes_of_lot notice lot s) (envelopes_of_lot notice lot (record s { envelopes = es' })) (securities_of_lot notice lot s) (lot_pairs th W s es' all notice lot);
+  gentle = award_gently notice lot;
 }

@@ -1,6 +1,7 @@
 -- The cancellation of a notice keeps the laws of the office.
 pub mod Accounts
 pub mod Fates
+pub mod Gentle
 use Rattle.std.specs.Prelude.{max, ℕ, List, IsSome}
 use Rattle.std.proofs.Common.{[], ◌∷◌, ◌≡◌, Bool, false, ◌++◌, map, filter, Option, Some, None, refl, ap, sym, arith, not, ◌||◌}
 use Rattle.std.specs.List.{AllByRecursion, list_any}
@@ -20,7 +21,7 @@ use Rattle.tender_core.specs.Rules.Cancel.{freed_line_put as cancel_line, cancel
 use Rattle.office_machine.specs.Worlds.{ChosenTender, Pairs}
 use Rattle.office_machine.specs.Parents.{HaveParents, LotHas, EnvelopeHas, AwardHas}
 use Rattle.office_machine.proofs.Commands.Tail.{HasTail, moved, front_map, loud}
-use Rattle.office_machine.proofs.Commands.Footprint.{Envelopes, Seals, Lines, Lots, Securities, Awards}
+use Rattle.office_machine.proofs.Commands.Footprint.{Notices, Envelopes, Seals, Lines, Lots, Securities, Awards}
 use Rattle.office_machine.proofs.Worlds.WorldsPut.{TwoEnvelopes, Alike, plain-map, plain-append, PutPair, Plain, receipt_is, pairs-filter, plain_pairs, pairs-append, pairs-map, alike-set}
 use Rattle.office_machine.proofs.Parents.ParentsPut.{Grows, Parents, AllParents, lot_still, envelope_still, award_still, parents-append, parents-map, parents-all, all-filter, all-table}
 use Rattle.office_machine.proofs.Worlds.WorldsRows.{notice_pairs}
@@ -30,10 +31,11 @@ use Rattle.office_machine.proofs.Commands.Lawful.{Lawful, Moving}
 use Rattle.office_machine.proofs.Passed.{none_holds, not_false, witness}
 use Rattle.office_machine.proofs.Commands.Cancel.Fates as cancel_fates
 use Rattle.office_machine.proofs.Rows.Keyed as keyed
+use Rattle.office_machine.proofs.Commands.Cancel.Gentle.{cancel_gently}
 
 -- six kinds of rows are put before the notice and the clock
 tail_of : (s : Tables) (t : ℕ) (notice : List ℕ) (n : NoticeRow) → notice_at notice s ≡ Some n → has_all_releases (notice_at notice s) ≡ false
-    → HasTail s t (Lines ∷ Lots ∷ Awards ∷ Envelopes ∷ Seals ∷ Securities ∷ []) (Some notice) None
+    → HasTail s t (Notices ∷ Lines ∷ Lots ∷ Awards ∷ Envelopes ∷ Seals ∷ Securities ∷ []) (Some notice) None
     (cancel_puts (record { notice = Some n; lines = s.lines; lots = lots_of_notice notice s; awards = awards_of_notice notice s; envelopes = envelopes_of_notice notice s; securities = securities_of_notice notice s; clock = s.clock }) t)
 tail_of s t notice n is full =
     let lots : List LotRow = lots_of_notice notice s in
@@ -47,7 +49,7 @@ tail_of s t notice n is full =
     (front_map envelope_put gone (λ _. refl)
     (front_map drop_put gone (λ _. refl)
     (front_map security_returned securities (λ _. refl)
-    (loud notice n (cancelled_notice n) _ [] is full refl refl refl tt refl (omega arith)))))))
+    (loud notice n (cancelled_notice n) _ [] is full refl refl refl refl tt refl (omega arith)))))))
 
 module _ (s u : Tables) (have : HaveParents s s) (g : Grows s u) (order : IsSorted s) where
   -- if the rows that a row refers to exist, those of its put do, for every row of a table
@@ -111,9 +113,6 @@ module _ (s : Tables) (have : HaveParents s s) (order : IsSorted s) where
 
 pub cancel : (notice rationale : List ℕ) → Lawful (Cancel notice rationale)
 cancel notice rationale = record {
-  touches = Lines ∷ Lots ∷ Awards ∷ Envelopes ∷ Seals ∷ Securities ∷ [];
-  alone = (refl, refl, refl);
-  beside = (refl, refl);
   accounts = Moving (λ readings xs s moment caller kept order own allowed. cancel_keeps readings xs s moment caller notice rationale kept order allowed);
   fates = λ readings. cancel_fates.cancel_keeps readings notice rationale;
   tail = λ readings s moment caller have allowed.
@@ -126,4 +125,5 @@ cancel notice rationale = record {
   lacks = λ xs s moment caller whole allowed. none_lacking s whole.parents whole.order notice (notice_at notice s);
   alike = λ th W s es' ss' all seals readings t caller quiet.
       pairs th W s.clock t s.lines (notice_at notice s) (lots_of_notice notice s) (awards_of_notice notice s) (envelopes_of_notice notice s) (envelopes_of_notice notice (record s { envelopes = es' })) (securities_of_notice notice s) (notice_pairs th W s es' all notice);
+  gentle = cancel_gently notice rationale;
 }

@@ -1,4 +1,5 @@
 -- The end of a contract keeps the laws of the office.
+pub mod Gentle
 use Rattle.std.specs.Prelude.{max, Option, nat_lt}
 use Rattle.std.proofs.Common.{◌≡◌, ℕ, ◌+◌, Bool, true, false, cond, List, ◌∷◌, Some, None, is_some, refl, sym, ◌∙◌, ap, subst, ◌⊎◌, inl, inr, arith, [], not, ◌||◌, ◌&&◌}
 use Rattle.std.specs.FinMap.{nat_cmp-IsAntisymmetric}
@@ -32,7 +33,7 @@ use Rattle.office_machine.specs.Parents.{HaveParents}
 use Rattle.office_machine.specs.Machine.{Given, time_of, command_tests, effect}
 use Rattle.office_machine.specs.Readings.{Readings}
 use Rattle.office_machine.specs.Moves.{moves, brought, taken, owed, line_in}
-use Rattle.office_machine.proofs.Parents.SpokenOf.{of_contract, of_award}
+use Rattle.office_machine.proofs.Parents.SpokenOf.{of_contract}
 use Rattle.office_machine.proofs.Parents.Whole.{IsWhole, less, line_there, not_overdrawn}
 use Rattle.office_machine.proofs.Parents.ParentsPut.{Grows, AllParents, contract_still, parents-if}
 use Rattle.office_machine.proofs.Worlds.WorldsPut.{plain-if, IsPlain, plain_pairs}
@@ -44,12 +45,12 @@ use Rattle.office_base.proofs.RowLaws.Keyed.{found_key, own_key}
 use Rattle.office_machine.proofs.Accounts.Kept.{AccountsStand, PotsAre, ContractIs, NoContractIs, over_contracts}
 use Rattle.office_machine.proofs.Accounts.Joins.{outstanding-own, over_contracts-replaced, free-replaced}
 use Rattle.office_machine.proofs.Passed.{none_holds, not_false, witness, test_of, split}
-use Rattle.office_machine.proofs.Commands.Footprint.{Lines, Contracts}
 use Rattle.office_machine.proofs.Commands.Lawful.{Lawful, Moving}
 use Rattle.office_machine.proofs.FateLaws.Views.{View}
 use Rattle.office_machine.proofs.FateLaws.Seen.{seen, IsQuiet}
 use Rattle.office_machine.proofs.FateLaws.FatesHold.{Keeps, given}
 use Rattle.office_machine.proofs.Rows.Keyed as keyed
+use Rattle.office_machine.proofs.Commands.End.Gentle.{end_gently}
 
 -- an end keeps the accounts
 module _ (readings : Readings) (xs : List Given) (s : Tables) (moment : ℕ) (caller : Caller) (c : ℕ) (how : How) (kept : AccountsStand xs s) (order : IsSorted s) where
@@ -233,20 +234,18 @@ module _ (xs : List Given) (s : Tables) (whole : IsWhole xs s) (contract : ℕ) 
 
 pub end_contract : (contract : ℕ) (how : How) → Lawful (End contract how)
 end_contract contract how = record {
-  touches = Contracts ∷ Lines ∷ [];
-  alone = (refl, refl, refl);
-  beside = (refl, refl);
   accounts = Moving (λ readings xs s moment caller kept order own allowed. end_keeps readings xs s moment caller contract how kept order allowed);
   fates = λ readings. fates_kept readings contract how;
   tail = λ readings s moment caller have allowed.
       let tests = none_holds (end_tests (end_rows s contract)) allowed in
       let of = of_contract s have contract (not_false _ tests.0) in
       moved refl (λ i. end_puts (record { contract = of.is i; entries = entries_of_contract contract s; notice = of.notice i; line = of.line i; performance = performance_at contract s; clock = s.clock }) (max moment s.clock.moment) how)
-      (bonded (settled_performance (ended_state how)) (performance_at contract s)
-      (front (puts.Contract _ ∷ puts.Line _ ∷ []) (refl, (refl, tt)) (on_contract contract of tests.1.1.0)));
+      (bonded (settled_performance (ended_state how)) (performance_at contract s) refl
+      (front (puts.Contract _ ∷ puts.Line _ ∷ []) (refl, (refl, tt)) (on_contract contract of refl tests.1.1.0)));
   parents = λ readings s moment caller order have registered may allowed u grown later. parents_of s u have grown s.clock _ how contract (contract_at contract s) (entries_of_contract contract s) (notice_of_contract (contract_at contract s) s) (line_of_lot (lot_of_contract (contract_at contract s) s) s) (performance_at contract s) refl refl;
   lacks = λ xs s moment caller whole allowed. none_lacking xs s whole contract (contract_at contract s) refl;
   alike = λ th W s es' ss' all seals readings t caller quiet.
       plain_pairs th W (end_puts (record { contract = contract_at contract s; entries = entries_of_contract contract s; notice = (notice_of_contract (contract_at contract s) s); line = (line_of_lot (lot_of_contract (contract_at contract s) s) s); performance = performance_at contract s; clock = s.clock }) t how)
       (plain s.clock t how (contract_at contract s) (entries_of_contract contract s) (notice_of_contract (contract_at contract s) s) (line_of_lot (lot_of_contract (contract_at contract s) s) s) (performance_at contract s));
+  gentle = end_gently contract how;
 }

@@ -1,4 +1,5 @@
 -- The examination of a tender keeps the laws of the office.
+pub mod Gentle
 use Rattle.std.specs.Prelude.{max, cond, List}
 use Rattle.std.proofs.Common.{arith, ◌≡◌, ℕ, Bool, [], ◌∷◌, Option, Some, None, refl, sym, ap, ◌∙◌, false, not, ◌||◌}
 use Rattle.std.specs.Cmp.{nat_cmp_total}
@@ -18,7 +19,6 @@ use Rattle.office_machine.specs.Parents.{HaveParents}
 use Rattle.office_machine.specs.Machine.{Given}
 use Rattle.office_machine.specs.Readings.{Readings}
 use Rattle.office_machine.specs.Fates.{is_kept}
-use Rattle.office_machine.proofs.Commands.Footprint.{Envelopes}
 use Rattle.office_machine.proofs.Commands.Lawful.{given, Lawful, Idle}
 use Rattle.office_machine.proofs.Worlds.WorldsPut.{TwoEnvelopes, AlikeOptions, PutPair, Plain, alike-set}
 use Rattle.office_machine.proofs.Parents.ParentsPut.{Grows, AllParents, envelope_still}
@@ -29,12 +29,13 @@ use Rattle.office_machine.proofs.Rows.RowsChanged.{row_at-changed_put}
 use Rattle.office_base.proofs.RowLaws.Keyed.{found_key}
 use Rattle.office_machine.proofs.FateLaws.Views.{Change, after_change}
 use Rattle.office_machine.proofs.FateLaws.Steps.{cond_keeps, examination, fair_examination}
-use Rattle.office_machine.proofs.FateLaws.Seen.{seen, alike, order-puts}
-use Rattle.office_machine.proofs.FateLaws.FatesHold.{FatesStand, Keeps, still_sealed, still_held, securities_keep}
+use Rattle.office_machine.proofs.FateLaws.Seen.{seen, alike}
+use Rattle.office_machine.proofs.FateLaws.FatesHold.{FatesStand, HaveFates, Keeps, still_sealed, still_held, securities_keep}
 use Rattle.office_machine.proofs.FateLaws.QuietFates.{one_more}
 use Rattle.office_machine.proofs.FateLaws.FatesChanged.{kept_by_change}
 use Rattle.office_machine.proofs.FateLaws.States.{map_same}
 use Rattle.office_machine.proofs.Rows.Keyed as keyed
+use Rattle.office_machine.proofs.Commands.Examine.Gentle.{examine_gently}
 
 module _ (readings : Readings) (receipt : ℕ) (responsive : Bool) (quality : Option ℕ) (xs : List Given) (t : Tables) (m : ℕ) (caller : Caller)
     (kept : FatesStand readings xs t) where
@@ -51,7 +52,7 @@ module _ (readings : Readings) (receipt : ℕ) (responsive : Bool) (quality : Op
     examine_state : (r : ℕ) (d : EnvelopeRow) → (examine_change.envelope_to r d).state ≡ d.state
     examine_state r d = cond_keeps (λ (e : EnvelopeRow). e.state) (eq_by_cmp nat_cmp r receipt) (examined responsive quality d) d refl
 
-    examined_kept : FatesStand readings (x ∷ xs) after_examine
+    examined_kept : HaveFates readings (x ∷ xs) after_examine
     examined_kept =
         kept_by_change readings xs x t after_examine examine_change kept
         (fair_examination (seen t) receipt (examined responsive quality) (λ e. refl) (λ e. refl) (λ e. refl) (λ e. refl))
@@ -79,11 +80,9 @@ module _ (readings : Readings) (receipt : ℕ) (responsive : Bool) (quality : Op
           no_seal = λ r at none. none;
           security_goes = λ s w a named at came_is is. still_held w.state;
         })
-        kept.lines
-        (order-puts (puts.Envelope (examined responsive quality e) ∷ clock_put t.clock (max m t.clock.moment) ∷ []) t kept.order)
 
   examine_by : (o : Option EnvelopeRow) → envelope_at receipt t ≡ o
-      → FatesStand readings (x ∷ xs) (after_puts (examine_puts (record { envelope = o; notice = None; lot = None; clock = t.clock }) (max m t.clock.moment) responsive quality) t)
+      → HaveFates readings (x ∷ xs) (after_puts (examine_puts (record { envelope = o; notice = None; lot = None; clock = t.clock }) (max m t.clock.moment) responsive quality) t)
   examine_by None found = one_more readings xs x t kept refl (λ r. refl) (λ s. refl)
   examine_by (Some e) found = examined_kept e found
 
@@ -118,9 +117,6 @@ none_lacking s have receipt (Some e) is = let h = have.envelopes receipt e is in
 
 pub examine : (receipt : ℕ) (responsive : Bool) (quality : Option ℕ) → Lawful (Examine receipt responsive quality)
 examine receipt responsive quality = record {
-  touches = Envelopes ∷ [];
-  alone = (refl, refl, refl);
-  beside = (refl, refl);
   accounts = Idle refl (λ s moment caller xs. record { moves_none = refl; held = λ _. refl; none_brought = λ _. refl; none_taken = λ _. refl });
   fates = λ readings. fates_kept readings receipt responsive quality;
   tail = λ readings s moment caller have allowed.
@@ -130,4 +126,5 @@ examine receipt responsive quality = record {
   parents = λ readings s moment caller order have registered may allowed u grown later. parents_of s u have grown s.clock _ receipt responsive quality (envelope_at receipt s) refl;
   lacks = λ xs s moment caller whole allowed. none_lacking s whole.parents receipt (envelope_at receipt s) refl;
   alike = λ th W s es' ss' all seals readings t caller quiet. pairs th W s.clock t responsive quality (envelope_at receipt s) (find_envelope es' receipt) (envelope_pair th W s es' all receipt);
+  gentle = examine_gently receipt responsive quality;
 }

@@ -1,6 +1,7 @@
 -- The failure of an award keeps the laws of the office.
 pub mod Accounts
 pub mod Fates
+pub mod Gentle
 use Rattle.std.specs.Prelude.{max, ℕ}
 use Rattle.std.proofs.Common.{[], ◌∷◌, refl, ◌≡◌, Bool, Option, Some, None, option_map, sym, ◌∙◌, ap, arith, subst, false, not, ◌||◌}
 use Rattle.office_commands.specs.declared.commands.Command.TheVariants.{Fail}
@@ -19,7 +20,7 @@ use Rattle.office_base.specs.declared.puts.Put.TheVariants as puts
 use Rattle.award_core.specs.Rules.Fail.{fail_tests, fail_rows, fail_puts, fail_lacks}
 use Rattle.office_machine.specs.Worlds.{ChosenTender, Pairs}
 use Rattle.office_machine.specs.Parents.{HaveParents, EnvelopeHas}
-use Rattle.office_machine.proofs.Commands.Footprint.{Envelopes, Awards, Lots, Securities, TableName, on-append, on-if}
+use Rattle.office_machine.proofs.Commands.Footprint.{TableName, touches, on-append, on-if}
 use Rattle.office_machine.proofs.Worlds.WorldsPut.{TwoEnvelopes, AlikeOptions, plain-if, PutPair, Plain, blind-option, plain_pairs, pairs-append, alike-set}
 use Rattle.office_machine.proofs.Parents.ParentsPut.{Grows, AllParents, envelope_still, award_still, parents-append, parents-if}
 use Rattle.office_machine.proofs.Worlds.WorldsRows.{awarded_pair}
@@ -31,6 +32,7 @@ use Rattle.office_machine.proofs.Passed.{none_holds, not_false}
 use Rattle.office_machine.proofs.Parents.SpokenOf.{of_award}
 use Rattle.office_machine.proofs.Commands.Tail.{moved, front, loud, is_own}
 use Rattle.office_machine.proofs.Commands.Fail.Fates as fail_fates
+use Rattle.office_machine.proofs.Commands.Fail.Gentle.{fail_gently}
 
 module _ (s u : Tables) (have : HaveParents s s) (g : Grows s u) where
   envelope_of : (o : Option AwardRow) (e : EnvelopeRow) → envelope_of_award o s ≡ Some e → EnvelopeHas u e
@@ -103,21 +105,18 @@ module _ (s : Tables) (have : HaveParents s s) where
 
 pub fail : (award : ℕ) → Lawful (Fail award)
 fail award = record {
-  touches = Awards ∷ Lots ∷ Envelopes ∷ Securities ∷ [];
-  alone = (refl, refl, refl);
-  beside = (refl, refl);
   accounts = Moving (λ readings xs s moment caller kept order own allowed. fail_keeps readings xs s moment caller award kept allowed);
   fates = λ readings. fail_fates.fail_keeps readings award;
   tail = λ readings s moment caller have allowed.
       let now : ℕ = max moment s.clock.moment in
       let tests = none_holds (fail_tests (fail_rows s award) now) allowed in
       let of = of_award s have award (not_false _ tests.0) in
-      let own : TableName → Bool = is_own (Awards ∷ Lots ∷ Envelopes ∷ Securities ∷ []) in
+      let own : TableName → Bool = is_own (touches (Fail award)) in
       let envelope = envelope_of_award (award_at award s) s in
       let security = security_of_envelope envelope s in
       moved (ap (option_map (λ (a : AwardRow). a.notice)) of.is) (λ i. fail_puts (record { award = of.is i; notice = of.notice i; lot = of.lot i; envelope = envelope; security = security; clock = s.clock }) now)
       (front (puts.Award _ ∷ puts.Lot _ ∷ []) (refl, (refl, tt))
-      (loud of.w.notice of.n (with_next_release of.n) _ _ of.notice_is (ap has_all_releases (of.notice_is ∙ sym of.notice) ∙ tests.1.1.1.1.0) refl refl refl
+      (loud of.w.notice of.n (with_next_release of.n) _ _ of.notice_is (ap has_all_releases (of.notice_is ∙ sym of.notice) ∙ tests.1.1.1.1.0) refl refl refl refl
       (on-append own _ _ (on-if own (λ e. puts.Envelope (passed_over e)) envelope (λ _. refl)) (on-if own (security_settled Forfeited) security (λ _. refl))) refl (omega arith)));
   parents = λ readings s moment caller order have registered may allowed u grown later. parents_of s u have grown s.clock _ award (award_at award s) (notice_of_award (award_at award s) s) (lot_of_award (award_at award s) s) refl refl;
   lacks = λ xs s moment caller whole allowed. none_lacking s whole.parents award (award_at award s) refl;
@@ -126,4 +125,5 @@ fail award = record {
       let o' = envelope_of_award (award_at award s) (record s { envelopes = es' }) in
       let pair = awarded_pair th W s es' all (award_at award s) in
       pairs th W s.clock t (award_at award s) (notice_of_award (award_at award s) s) (lot_of_award (award_at award s) s) o o' (security_of_envelope o s) (security_of_envelope o' s) pair (blind-option th W (λ o. security_of_envelope o s) (λ _ _. refl) o o' pair);
+  gentle = fail_gently award;
 }

@@ -1,14 +1,20 @@
 -- The table of a put. A put leaves the other tables as they are.
-use Rattle.std.proofs.Common.{◌≡◌, Bool, true, false, List, [], ◌∷◌, ◌++◌, map, Option, Some, None, refl, sym, ◌∙◌}
+use Rattle.std.proofs.Common.{◌≡◌, Bool, true, false, List, [], ◌∷◌, ◌++◌, map, Option, Some, None, refl, sym, ap, ◌∙◌}
+use Rattle.std.specs.Prelude.{◌||◌}
 use Rattle.std.specs.List.{AllByRecursion, list_any}
+use Rattle.office_commands.specs.declared.commands.Command.{Command}
+use Rattle.office_commands.specs.declared.commands.Command.TheVariants as commands
 use Rattle.office_base.specs.declared.puts.Put.{Put}
 use Rattle.office_base.specs.declared.puts.Put.TheVariants as puts
 use Rattle.office_base.specs.Transitions.{put_if}
 use Rattle.office_base.specs.Tables.{Tables, after_put, after_puts}
+use Rattle.office_machine.proofs.Passed.{neither}
 
--- the tables of an office, with one name for those that no law here mentions: budget files and tenderers
+-- the tables of an office
 pub data TableName : Type 0 where
   Lines : TableName
+  Batches : TableName
+  Tenderers : TableName
   Notices : TableName
   Lots : TableName
   Envelopes : TableName
@@ -22,10 +28,11 @@ pub data TableName : Type 0 where
   LateRules : TableName
   Performances : TableName
   Clock : TableName
-  Others : TableName
 
 abbrev pub table_of : Put → TableName
 table_of (puts.Line r) = Lines
+table_of (puts.Batch r) = Batches
+table_of (puts.Tenderer r) = Tenderers
 table_of (puts.Notice r) = Notices
 table_of (puts.Lot r) = Lots
 table_of (puts.Envelope r) = Envelopes
@@ -40,10 +47,11 @@ table_of (puts.Compiled r) = Merges
 table_of (puts.Late r) = LateRules
 table_of (puts.Performance r) = Performances
 table_of (puts.Clock r) = Clock
-table_of _ = Others
 
 abbrev pub same_table : TableName → TableName → Bool
 same_table Lines Lines = true
+same_table Batches Batches = true
+same_table Tenderers Tenderers = true
 same_table Notices Notices = true
 same_table Lots Lots = true
 same_table Envelopes Envelopes = true
@@ -57,12 +65,49 @@ same_table Merges Merges = true
 same_table LateRules LateRules = true
 same_table Performances Performances = true
 same_table Clock Clock = true
-same_table Others Others = true
 same_table _ _ = false
+
+same_is : (a b : TableName) → same_table a b ≡ true → a ≡ b
+same_is Lines Lines e = refl
+same_is Batches Batches e = refl
+same_is Tenderers Tenderers e = refl
+same_is Notices Notices e = refl
+same_is Lots Lots e = refl
+same_is Envelopes Envelopes e = refl
+same_is Seals Seals e = refl
+same_is Securities Securities e = refl
+same_is Awards Awards e = refl
+same_is Contracts Contracts e = refl
+same_is Entries Entries e = refl
+same_is Releases Releases e = refl
+same_is Merges Merges e = refl
+same_is LateRules LateRules e = refl
+same_is Performances Performances e = refl
+same_is Clock Clock e = refl
+same_is _ _ e = absurd (let no : false ≡ true = e in cc)
 
 -- the table is one of the named ones
 abbrev pub is_in : List TableName → TableName → Bool
 is_in names name = list_any (same_table name) names
+
+-- the tables of the rows that a command puts, but for the clock, which each command puts
+abbrev pub touches : Command → List TableName
+touches (commands.Import batch rows) = Lines ∷ Batches ∷ []
+touches (commands.Register tenderer name address key) = Tenderers ∷ []
+touches (commands.Publish notice content) = Notices ∷ Lines ∷ Lots ∷ LateRules ∷ []
+touches (commands.AmendNotice notice deadline rationale) = Notices ∷ []
+touches (commands.Cancel notice rationale) = Notices ∷ Lines ∷ Lots ∷ Awards ∷ Envelopes ∷ Seals ∷ Securities ∷ []
+touches (commands.Open notice) = Notices ∷ Envelopes ∷ []
+touches (commands.Present notice lot security bytes) = Envelopes ∷ Seals ∷ Securities ∷ []
+touches (commands.Modify receipt bytes) = Envelopes ∷ Seals ∷ []
+touches (commands.Withdraw receipt) = Envelopes ∷ Seals ∷ Securities ∷ []
+touches (commands.Examine receipt responsive quality) = Envelopes ∷ []
+touches (commands.Award notice lot) = Notices ∷ Awards ∷ Lots ∷ Lines ∷ Securities ∷ []
+touches (commands.Fail award) = Notices ∷ Awards ∷ Lots ∷ Envelopes ∷ Securities ∷ []
+touches (commands.Sign award named) = Notices ∷ Awards ∷ Lots ∷ Contracts ∷ Performances ∷ Securities ∷ []
+touches (commands.AmendContract contract entry kind amount rationale) = Notices ∷ Entries ∷ Lines ∷ []
+touches (commands.Pay contract entry amount) = Notices ∷ Entries ∷ []
+touches (commands.End contract how) = Notices ∷ Contracts ∷ Lines ∷ Performances ∷ []
 
 -- each put is of one of these tables
 abbrev pub IsOn : (TableName → Bool) → Put → Type 0
@@ -86,6 +131,25 @@ on-map test make (x ∷ xs) h = (h x, on-map test make xs h)
 pub on-if : {X : Type 0} (test : TableName → Bool) (make : X → Put) (o : Option X) → ((x : X) → IsOn test (make x)) → AreOn test (put_if make o)
 on-if test make None h = tt
 on-if test make (Some x) h = (h x, tt)
+
+-- a table that passes a test is none of those that fail it
+apart_by : (test : TableName → Bool) (name r : TableName) (more : Bool) → test name ≡ true → test r ≡ false → more ≡ false → (b : Bool) → same_table name r ≡ b → (b || more) ≡ false
+apart_by test name r more on off none true e = absurd (let both : true ≡ false = sym on ∙ ap test (same_is name r e) ∙ off in cc)
+apart_by test name r more on off none false e = none
+
+apart : (test : TableName → Bool) (names : List TableName) → list_any test names ≡ false → (name : TableName) → test name ≡ true → is_in names name ≡ false
+apart test [] off name on = refl
+apart test (r ∷ names) off name on =
+    let each = neither (test r) (list_any test names) off in apart_by test name r (is_in names name) on each.0 (apart test names each.1 name on) (same_table name r) refl
+
+-- the law holds of a put of any other table
+abbrev pub Reads : List TableName → (Put → Type 0) → Type 0
+Reads names P = (p : Put) → is_in names (table_of p) ≡ false → P p
+
+-- puts of other tables than those that a law reads keep it
+pub on-others : (P : Put → Type 0) (names : List TableName) → Reads names P → (test : TableName → Bool) → list_any test names ≡ false → (ps : List Put) → AreOn test ps → AllByRecursion P ps
+on-others P names law test off [] on = tt
+on-others P names law test off (p ∷ ps) on = (law p (apart test names off (table_of p) on.0), on-others P names law test off ps on.1)
 
 -- the tables that fail the test are unchanged
 pub record Leaves (test : TableName → Bool) (t u : Tables) : Type 0 where

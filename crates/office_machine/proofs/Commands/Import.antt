@@ -1,6 +1,7 @@
 -- The import of a budget file keeps the laws of the office.
 pub mod Accounts
 pub mod Columns
+pub mod Gentle
 use Rattle.std.proofs.Common.{[], ◌∷◌, refl, arith}
 use Rattle.std.specs.Prelude.{ℕ, ◌||◌, List, map}
 use Rattle.office_commands.specs.declared.commands.Command.TheVariants.{Import}
@@ -13,7 +14,6 @@ use Rattle.office_machine.proofs.Commands.Lawful.{given, Lawful, Moving}
 use Rattle.office_machine.proofs.Worlds.WorldsPut.{plain-map, plain-append, plain_pairs}
 use Rattle.office_machine.proofs.Commands.Import.Accounts.{import_keeps, covered}
 use Rattle.office_machine.proofs.Commands.Import.Columns.{none_below}
-use Rattle.office_machine.proofs.Commands.Footprint.{Lines, Others}
 use Rattle.office_machine.proofs.FateLaws.QuietFates.{kept_after, one_more, all_append, all_of_map}
 use Rattle.office_machine.proofs.FateLaws.Seen.{seen, IsQuiet}
 use Rattle.office_machine.proofs.FateLaws.FatesHold.{Keeps}
@@ -21,6 +21,7 @@ use Rattle.office_machine.proofs.Parents.NoOrphans.{no_lost_lines}
 use Rattle.office_machine.proofs.Parents.ParentsPut.{parents-append, parents-map}
 use Rattle.office_machine.proofs.Passed.{none_holds}
 use Rattle.office_machine.proofs.Commands.Tail.{front, front_map, quiet}
+use Rattle.office_machine.proofs.Commands.Import.Gentle.{import_gently}
 
 -- the puts of lines, the budget file and the clock touch no tender and no security
 fates_kept : (readings : Readings) (batch : List ℕ) (rows : List BudgetRow) → Keeps readings (Import batch rows)
@@ -31,9 +32,6 @@ fates_kept readings batch rows xs t m caller kept own allowed =
 
 pub import_budget : (batch : List ℕ) (rows : List BudgetRow) → Lawful (Import batch rows)
 import_budget batch rows = record {
-  touches = Lines ∷ Others ∷ [];
-  alone = (refl, refl, refl);
-  beside = (refl, refl);
   accounts = Moving (λ readings xs s moment caller kept order own allowed. import_keeps readings xs s moment caller batch rows kept order allowed);
   fates = λ readings. fates_kept readings batch rows;
   tail = λ readings s moment caller have allowed.
@@ -46,4 +44,5 @@ import_budget batch rows = record {
   alike = λ th W s es' ss' all seals readings t caller quiet.
       plain_pairs th W (import_puts (import_rows s batch rows) t batch)
       (plain-append (map (imported_line_put (after_rows (standings s) rows)) rows) _ (plain-map (imported_line_put (after_rows (standings s) rows)) rows (λ _. tt)) (tt, (tt, tt)));
+  gentle = import_gently batch rows;
 }

@@ -1,8 +1,7 @@
 -- The facts about one command from which the laws of the office follow.
-use Rattle.std.specs.Prelude.{◌≡◌, ℕ, Bool, true, false, max, List, ◌∷◌, None}
+use Rattle.std.specs.Prelude.{◌≡◌, ℕ, true, false, max, List, ◌∷◌, None}
 use Rattle.office_commands.specs.declared.command.Caller.{Caller}
 use Rattle.office_commands.specs.declared.commands.Command.{Command}
-use Rattle.office_commands.specs.declared.commands.Command.TheVariants.{Import, Register, Publish, Cancel, Award, Fail, Sign, AmendContract, End}
 use Rattle.office_base.specs.Rules.{first_of}
 use Rattle.office_base.specs.Tables.{Tables, IsSorted, after_puts}
 use Rattle.office_machine.specs.Readings.{Readings}
@@ -12,10 +11,11 @@ use Rattle.office_machine.specs.Parents.{HaveParents}
 use Rattle.office_machine.specs.Publications.{published_for}
 use Rattle.office_machine.specs.Commands.{rule_of}
 use Rattle.office_machine.proofs.Accounts.Aside.{IsIdle}
-use Rattle.office_machine.proofs.Commands.Footprint.{TableName, Awards, Contracts, LateRules, Lines, Others, is_in}
+use Rattle.office_machine.proofs.Commands.Footprint.{touches}
 use Rattle.office_machine.proofs.Accounts.Idle.{touches_books}
 use Rattle.office_machine.proofs.Accounts.Kept.{AccountsStand}
 use Rattle.office_machine.proofs.FateLaws.FatesHold.{Keeps}
+use Rattle.office_machine.proofs.NoParents.Gentle.{PutsGently}
 use Rattle.office_machine.proofs.Parents.ParentsPut.{Grows, AllParents}
 use Rattle.office_machine.proofs.Parents.Whole.{IsWhole}
 use Rattle.office_machine.proofs.Commands.Tail.{HasTail, bond_for}
@@ -25,58 +25,21 @@ abbrev pub given : Tables → ℕ → Caller → Command → Given
 given s moment caller command = record { before = s; moment = moment; caller = caller; command = command }
 
 -- the command touches no book and moves nothing, or it is shown to keep the books
-pub data KeepsBooks (command : Command) (touches : List TableName) : Type 0 where
-  Idle : touches_books touches ≡ false → ((s : Tables) (moment : ℕ) (caller : Caller) (xs : List Given) → IsIdle (given s moment caller command) xs) → KeepsBooks command touches
+pub data KeepsBooks (command : Command) : Type 0 where
+  Idle : touches_books (touches command) ≡ false → ((s : Tables) (moment : ℕ) (caller : Caller) (xs : List Given) → IsIdle (given s moment caller command) xs) → KeepsBooks command
   Moving : ((readings : Readings) (xs : List Given) (s : Tables) (moment : ℕ) (caller : Caller) → AccountsStand xs s → IsSorted s → IsCommand command
       → first_of (tests_for s (max moment s.clock.moment) caller command) ≡ None
-      → AccountsStand (given s moment caller command ∷ xs) (after_puts (puts_for readings s (max moment s.clock.moment) caller command) s)) → KeepsBooks command touches
-
-abbrev pub puts_contracts : Command → Bool
-puts_contracts (Sign award named) = true
-puts_contracts (End contract how) = true
-puts_contracts _ = false
-
-abbrev pub puts_late_rules : Command → Bool
-puts_late_rules (Publish notice content) = true
-puts_late_rules _ = false
-
-abbrev pub puts_awards : Command → Bool
-puts_awards (Cancel notice rationale) = true
-puts_awards (Award notice lot) = true
-puts_awards (Fail award) = true
-puts_awards (Sign award named) = true
-puts_awards _ = false
-
-abbrev pub puts_lines : Command → Bool
-puts_lines (Import batch rows) = true
-puts_lines (Publish notice content) = true
-puts_lines (Cancel notice rationale) = true
-puts_lines (Award notice lot) = true
-puts_lines (AmendContract contract entry kind amount rationale) = true
-puts_lines (End contract how) = true
-puts_lines _ = false
-
--- budget files and tenderers
-abbrev pub puts_names : Command → Bool
-puts_names (Import batch rows) = true
-puts_names (Register tenderer name address key) = true
-puts_names _ = false
+      → AccountsStand (given s moment caller command ∷ xs) (after_puts (puts_for readings s (max moment s.clock.moment) caller command) s)) → KeepsBooks command
 
 pub record Lawful (command : Command) : Type 0 where
-  -- the tables of the command's own rows
-  pub touches : List TableName
-  -- only a signing and an end put contracts, only a publication puts rules on late withdrawals, and only four commands put awards
-  pub alone : (is_in touches Contracts ≡ puts_contracts command) × (is_in touches LateRules ≡ puts_late_rules command) × (is_in touches Awards ≡ puts_awards command)
-  -- only six commands put budget lines, and only an import and a registration put budget files or tenderers
-  pub beside : (is_in touches Lines ≡ puts_lines command) × (is_in touches Others ≡ puts_names command)
   -- the command keeps the accounts
-  pub accounts : KeepsBooks command touches
+  pub accounts : KeepsBooks command
   -- the command keeps the fates of tenders and securities
   pub fates : (readings : Readings) → Keeps readings command
-  -- the command puts rows of those tables, the clock at its moment and, if it publishes, its notice with one release more
+  -- the command puts rows of its tables, the clock at its moment and, if it publishes, its notice with one release more
   pub tail : (readings : Readings) (s : Tables) (moment : ℕ) (caller : Caller) → HaveParents s s
       → first_of (tests_for s (max moment s.clock.moment) caller command) ≡ None
-      → HasTail s (max moment s.clock.moment) touches (published_for s command) (bond_for s command) (puts_for readings s (max moment s.clock.moment) caller command)
+      → HasTail s (max moment s.clock.moment) (touches command) (published_for s command) (bond_for s command) (puts_for readings s (max moment s.clock.moment) caller command)
   -- the rows that its rows refer to exist in any tables that have all rows from before it and after it
   pub parents : (readings : Readings) (s : Tables) (moment : ℕ) (caller : Caller) → IsSorted s → HaveParents s s → IsRegistered caller s.tenderers → may_give caller command ≡ true
       → first_of (tests_for s (max moment s.clock.moment) caller command) ≡ None → (u : Tables) → Grows s u
@@ -86,3 +49,5 @@ pub record Lawful (command : Command) : Type 0 where
       → (rule_of command).lacks s ≡ false
   -- two offices that differ only in the bytes that a tenderer seals remain alike
   pub alike : PutsAlike command
+  -- over any tables, its rows make no parent of rows that are there without it, and replace no row of another owner
+  pub gentle : PutsGently command

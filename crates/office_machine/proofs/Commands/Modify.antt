@@ -1,5 +1,6 @@
 -- The replacement of a tender keeps the laws of the office.
 pub mod Fates
+pub mod Gentle
 use Rattle.std.specs.Prelude.{max, ℕ, List}
 use Rattle.std.proofs.Common.{[], ◌∷◌, refl, ◌≡◌, Bool, false, Option, Some, None, sym, ◌∙◌, ap, arith, ◌+◌, length, not, ◌||◌}
 use Rattle.office_commands.specs.declared.commands.Command.TheVariants.{Modify}
@@ -13,7 +14,6 @@ use Rattle.office_base.specs.declared.records.EnvelopeState.TheVariants as envel
 use Rattle.tender_core.specs.Rules.Modify.{modify_tests, modify_rows, withdrawn, replacing, modify_puts, modify_lacks}
 use Rattle.office_machine.specs.Worlds.{ChosenTender, Pairs, is_theirs}
 use Rattle.office_machine.specs.Parents.{HaveParents}
-use Rattle.office_machine.proofs.Commands.Footprint.{Envelopes, Seals}
 use Rattle.office_machine.proofs.Worlds.WorldsPut.{TwoEnvelopes, TwoSeals, AlikeOptions, PutPair, Plain, receipt_is, alike-set}
 use Rattle.office_machine.proofs.Parents.NoOrphans.{isnt_torn, receipt_is_new}
 use Rattle.office_machine.proofs.Parents.ParentsPut.{Grows, AllParents, envelope_still}
@@ -21,6 +21,7 @@ use Rattle.office_machine.proofs.Commands.Lawful.{Lawful, Idle}
 use Rattle.office_machine.proofs.Passed.{none_holds, not_false, witness}
 use Rattle.office_machine.proofs.Commands.Tail.{moved, front, quiet}
 use Rattle.office_machine.proofs.Commands.Modify.Fates as modify_fates
+use Rattle.office_machine.proofs.Commands.Modify.Gentle.{modify_gently}
 
 module _ (s u : Tables) (have : HaveParents s s) (g : Grows s u) where
   -- the rows that its rows refer to exist
@@ -65,9 +66,6 @@ none_lacking s have receipt (Some e) is = ap not (have.envelopes receipt e is).n
 
 pub modify : (receipt : ℕ) (bytes : List ℕ) → Lawful (Modify receipt bytes)
 modify receipt bytes = record {
-  touches = Envelopes ∷ Seals ∷ [];
-  alone = (refl, refl, refl);
-  beside = (refl, refl);
   accounts = Idle refl (λ s moment caller xs. record { moves_none = refl; held = λ _. refl; none_brought = λ _. refl; none_taken = λ _. refl });
   fates = λ readings. modify_fates.modify_keeps readings receipt bytes;
   tail = λ readings s moment caller have allowed.
@@ -82,4 +80,5 @@ modify receipt bytes = record {
       none_lacking s whole.parents receipt (envelope_at receipt s) refl i || receipt_is_new xs s whole i
       || isnt_torn xs s whole receipt (envelope_at receipt s) refl tests.1.1.1.0 i;
   alike = λ th W s es' ss' all seals readings t caller quiet. absurd quiet;
+  gentle = modify_gently receipt bytes;
 }

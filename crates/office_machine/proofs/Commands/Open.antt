@@ -1,5 +1,6 @@
 -- The opening of the tenders of a notice keeps the laws of the office.
 pub mod Fates
+pub mod Gentle
 use Rattle.std.specs.Prelude.{max, ℕ, List}
 use Rattle.std.proofs.Common.{[], ◌∷◌, refl, ◌≡◌, Bool, map, filter, Option, Some, None, sym, ◌∙◌, ap, arith}
 use Rattle.std.specs.List.{AllByRecursion}
@@ -21,12 +22,12 @@ use Rattle.office_machine.proofs.Parents.NoOrphans.{no_tender_lost}
 use Rattle.office_machine.proofs.Parents.ParentsPut.{Grows, AllParents, envelope_still, parents-append, all-filter, all-table}
 use Rattle.office_machine.proofs.Worlds.WorldsRows.{notice_pairs}
 use Rattle.office_machine.proofs.Worlds.WorldsStep.{SealsAlike}
-use Rattle.office_machine.proofs.Commands.Footprint.{Envelopes}
 use Rattle.office_machine.proofs.Commands.Lawful.{Lawful, Idle}
 use Rattle.office_machine.proofs.Passed.{none_holds, not_false, witness}
 use Rattle.office_machine.proofs.Commands.Tail.{moved, front_map, loud}
 use Rattle.office_machine.proofs.Commands.Open.Fates as open_fates
 use Rattle.office_machine.proofs.Rows.Keyed as keyed
+use Rattle.office_machine.proofs.Commands.Open.Gentle.{open_gently}
 
 module _ (s u : Tables) (have : HaveParents s s) (g : Grows s u) (order : IsSorted s) where
   opened_all : (read : List ℕ → List Item → Reading) (rows : List EnvelopeRow) → AllByRecursion (λ e. EnvelopeHas u e) rows → AllParents u (map (opened_put read) (map (sealed_tender s) rows))
@@ -74,9 +75,6 @@ module _ (th : ChosenTender) (W : ℕ → Bool) (s : Tables) (es' : List Envelop
 
 pub open_tenders : (notice : List ℕ) → Lawful (Open notice)
 open_tenders notice = record {
-  touches = Envelopes ∷ [];
-  alone = (refl, refl, refl);
-  beside = (refl, refl);
   accounts = Idle refl (λ s moment caller xs. record { moves_none = refl; held = λ _. refl; none_brought = λ _. refl; none_taken = λ _. refl });
   fates = λ readings. open_fates.open_keeps readings notice;
   tail = λ readings s moment caller have allowed.
@@ -85,8 +83,9 @@ open_tenders notice = record {
       let n = witness (notice_at notice s) (not_false _ tests.0) in
       moved refl (λ i. open_puts readings.read (record { notice = n.1 i; clock = s.clock }) now (sealed_tenders notice s))
       (front_map (opened_put readings.read) (sealed_tenders notice s) (λ _. refl)
-      (loud notice n.0 (opened_notice now n.0) _ [] n.1 tests.1.1.1.1.0 refl refl refl tt refl (omega arith)));
+      (loud notice n.0 (opened_notice now n.0) _ [] n.1 tests.1.1.1.1.0 refl refl refl refl tt refl (omega arith)));
   parents = λ readings s moment caller order have registered may allowed u grown later. parents_of s u have grown order readings.read s.clock _ notice (notice_at notice s);
   lacks = λ xs s moment caller whole allowed. no_tender_lost xs s whole notice;
   alike = λ th W s es' ss' all seals readings t caller quiet. pairs th W s es' ss' all readings.read s.clock t notice (notice_at notice s) quiet;
+  gentle = open_gently notice;
 }

@@ -1,4 +1,5 @@
 -- A payment keeps the laws of the office.
+pub mod Gentle
 use Rattle.std.specs.Prelude.{max, Option}
 use Rattle.std.proofs.Common.{◌≡◌, ℕ, ◌+◌, ◌≤◌, Bool, true, false, cond, List, [], ◌∷◌, Some, None, is_some, refl, sym, ◌∙◌, ap, subst, arith, not}
 use Rattle.std.specs.List.{AllByRecursion}
@@ -7,7 +8,7 @@ use Rattle.office_values.specs.declared.refusal.Refusal.{Refusal}
 use Rattle.office_commands.specs.declared.command.Caller.{Caller}
 use Rattle.office_commands.specs.declared.commands.Command.TheVariants.{Pay}
 use Rattle.office_commands.specs.declared.commands.Command.TheVariants as commands
-use Rattle.office_base.specs.Tables.{IsSorted, same_number, Tables, notice_at, lot_at, contract_at, find_entry, put_entry, entries_of_contract, after_puts, of_notice}
+use Rattle.office_base.specs.Tables.{IsSorted, same_number, Tables, notice_at, lot_at, contract_at, find_entry, put_entry, entries_of_contract, after_puts}
 use Rattle.office_base.specs.Rules.{first_of}
 use Rattle.office_base.specs.Transitions.{with_next_release, clock_put, has_all_releases}
 use Rattle.office_base.specs.declared.records.NoticeRow.{NoticeRow}
@@ -34,7 +35,6 @@ use Rattle.office_machine.proofs.Accounts.Kept.{AccountsStand, PotsAre, Contract
 use Rattle.office_machine.proofs.Accounts.Joins.{outstanding-own}
 use Rattle.office_machine.proofs.Passed.{none_holds, not_false, not_both, at_least, witness, test_of, neither}
 use Rattle.office_machine.proofs.Accounts.Entered.{not_taken, contracts_are, no_contract_are, gains, losses, payments}
-use Rattle.office_machine.proofs.Commands.Footprint.{Entries}
 use Rattle.office_machine.proofs.Commands.Lawful.{Lawful, Moving}
 use Rattle.office_machine.proofs.Parents.SpokenOf.{of_contract}
 use Rattle.office_machine.proofs.FateLaws.Views.{View}
@@ -42,6 +42,7 @@ use Rattle.office_machine.proofs.FateLaws.Seen.{seen, IsQuiet}
 use Rattle.office_machine.proofs.FateLaws.FatesHold.{Keeps, given}
 use Rattle.office_machine.proofs.Worlds.WorldsPut.{IsPlain, plain_pairs}
 use Rattle.office_machine.proofs.Rows.Keyed as keyed
+use Rattle.office_machine.proofs.Commands.Pay.Gentle.{pay_gently}
 
 -- a payment keeps the accounts
 module _ (readings : Readings) (xs : List Given) (s : Tables) (moment : ℕ) (caller : Caller) (c : ℕ) (entry : List ℕ) (amount : ℕ) (kept : AccountsStand xs s) (order : IsSorted s) where
@@ -163,9 +164,6 @@ none_lacking s have contract (Some c) is = ap not (have.contracts contract c is)
 
 pub pay : (contract : ℕ) (entry : List ℕ) (amount : ℕ) → Lawful (Pay contract entry amount)
 pay contract entry amount = record {
-  touches = Entries ∷ [];
-  alone = (refl, refl, refl);
-  beside = (refl, refl);
   accounts = Moving (λ readings xs s moment caller kept order own allowed. pay_keeps readings xs s moment caller contract entry amount kept order allowed);
   fates = λ readings. fates_kept readings contract entry amount;
   tail = λ readings s moment caller have allowed.
@@ -173,9 +171,10 @@ pay contract entry amount = record {
       let of = of_contract s have contract (not_false _ tests.0) in
       moved refl (λ i. pay_puts (record { contract = of.is i; entries = []; notice = of.notice i; clock = s.clock }) (max moment s.clock.moment) entry amount)
       (front (puts.Entry _ ∷ []) (refl, tt)
-      (on_contract contract of (neither _ (has_all_releases (notice_of_contract (contract_at contract s) s)) tests.1.1.1.1.0).1));
+      (on_contract contract of refl (neither _ (has_all_releases (notice_of_contract (contract_at contract s) s)) tests.1.1.1.1.0).1));
   parents = λ readings s moment caller order have registered may allowed u grown later. parents_of s u have grown s.clock _ contract (contract_at contract s) (notice_of_contract (contract_at contract s) s) entry amount refl;
   lacks = λ xs s moment caller whole allowed. none_lacking s whole.parents contract (contract_at contract s) refl;
   alike = λ th W s es' ss' all seals readings t caller quiet.
       plain_pairs th W (pay_puts (record { contract = contract_at contract s; entries = []; notice = (notice_of_contract (contract_at contract s) s); clock = s.clock }) t entry amount) (plain s.clock t (contract_at contract s) (notice_of_contract (contract_at contract s) s) entry amount);
+  gentle = pay_gently contract entry amount;
 }

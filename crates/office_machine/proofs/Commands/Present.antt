@@ -1,5 +1,6 @@
 -- The submission of a tender keeps the laws of the office.
 pub mod Fates
+pub mod Gentle
 use Rattle.std.specs.Prelude.{max, ℕ, List, Option, IsSome}
 use Rattle.std.proofs.Common.{◌+◌, [], ◌∷◌, refl, is_some, ◌≡◌, Bool, true, false, Some, None, option_map, sym, ◌∙◌, ap, arith, subst, length}
 use Rattle.office_commands.specs.declared.commands.Command.TheVariants.{Present}
@@ -26,6 +27,7 @@ use Rattle.office_machine.proofs.Commands.Lawful.{Lawful, Idle, given}
 use Rattle.office_machine.proofs.Rows.Keyed.{found_put}
 use Rattle.office_machine.proofs.Commands.Present.Fates as present_fates
 use Rattle.office_machine.proofs.Rows.Keyed as keyed
+use Rattle.office_machine.proofs.Commands.Present.Gentle.{present_gently}
 
 -- the puts of the command
 tail_of : (digest : List ℕ → List ℕ) (s : Tables) (t : ℕ) (caller : Caller) (notice lot : List ℕ) (security : Option NamedSecurity) (bytes : List ℕ) (in_time : Bool)
@@ -97,9 +99,6 @@ module _ (th : ChosenTender) (W : ℕ → Bool) (digest : List ℕ → List ℕ)
 
 pub present : (notice lot : List ℕ) (security : Option NamedSecurity) (bytes : List ℕ) → Lawful (Present notice lot security bytes)
 present notice lot security bytes = record {
-  touches = Envelopes ∷ Seals ∷ Securities ∷ [];
-  alone = (refl, refl, refl);
-  beside = (refl, refl);
   accounts = Idle refl (λ s moment caller xs. record { moves_none = refl; held = λ _. refl; none_brought = λ _. refl; none_taken = λ _. refl });
   fates = λ readings. present_fates.present_keeps readings notice lot security bytes;
   tail = λ readings s moment caller have allowed.
@@ -113,4 +112,5 @@ present notice lot security bytes = record {
       (λ named. later.securities (s.clock.receipts + 1) (security_put_there readings.digest s.clock _ caller notice lot security bytes _ s named));
   lacks = λ xs s moment caller whole allowed. receipt_is_new xs s whole;
   alike = λ th W s es' ss' all seals readings t caller quiet. absurd quiet;
+  gentle = present_gently notice lot security bytes;
 }

@@ -1,6 +1,7 @@
 -- The publication of a notice keeps the laws of the office.
 pub mod Accounts
 pub mod Fates
+pub mod Gentle
 pub mod Rows
 use Rattle.std.specs.Prelude.{max, IsSome, ℕ, List}
 use Rattle.std.proofs.Common.{[], ◌∷◌, sym, subst, map, ◌++◌, ◌≡◌, Bool, false, Option, Some, None, is_some, refl, ◌∙◌, ap, arith}
@@ -25,30 +26,31 @@ use Rattle.office_machine.proofs.Worlds.WorldsPut.{plain-map, plain-append, IsPl
 use Rattle.office_machine.proofs.Accounts.Aside.{after-append}
 use Rattle.office_machine.proofs.Passed.{none_holds}
 use Rattle.office_machine.proofs.Commands.Publish.Accounts.{publish_keeps, on_lines, OnLines}
-use Rattle.office_machine.proofs.Commands.Footprint.{Lines, Lots, LateRules, TableName, AreOn, on-append, on-map}
+use Rattle.office_machine.proofs.Commands.Footprint.{Notices, Lines, Lots, LateRules, TableName, AreOn, on-append, on-map}
 use Rattle.office_machine.proofs.Commands.Lawful.{Lawful, Moving, given}
 use Rattle.office_machine.proofs.Rows.Keyed.{found_put}
 use Rattle.office_machine.proofs.Commands.Publish.Fates as publish_fates
 use Rattle.office_machine.proofs.Rows.Keyed as keyed
+use Rattle.office_machine.proofs.Commands.Publish.Gentle.{publish_gently}
 
 -- no such notice exists yet
 absent : (o : Option NoticeRow) → is_some o ≡ false → o ≡ None
 absent None e = refl
 absent (Some n) e = cc
 
-late_own : (notice : List ℕ) (late : LateWithdrawal) → AreOn (is_own (Lines ∷ Lots ∷ LateRules ∷ [])) (late_puts notice late)
+late_own : (notice : List ℕ) (late : LateWithdrawal) → AreOn (is_own (Notices ∷ Lines ∷ Lots ∷ LateRules ∷ [])) (late_puts notice late)
 late_own notice Refused = tt
 late_own notice Forfeits = (refl, tt)
 
 -- the puts of the command
-tail_of : (s : Tables) (t : ℕ) (notice : List ℕ) (content : NewNotice) → is_some (notice_at notice s) ≡ false → HasTail s t (Lines ∷ Lots ∷ LateRules ∷ []) (Some notice) None (publish_puts (record { notice = None; lines = s.lines; clock = s.clock }) t notice content)
+tail_of : (s : Tables) (t : ℕ) (notice : List ℕ) (content : NewNotice) → is_some (notice_at notice s) ≡ false → HasTail s t (Notices ∷ Lines ∷ Lots ∷ LateRules ∷ []) (Some notice) None (publish_puts (record { notice = None; lines = s.lines; clock = s.clock }) t notice content)
 tail_of s t notice content new =
-    let own : TableName → Bool = is_own (Lines ∷ Lots ∷ LateRules ∷ []) in
+    let own : TableName → Bool = is_own (Notices ∷ Lines ∷ Lots ∷ LateRules ∷ []) in
     let old = ap releases_in (absent (notice_at notice s) new) in
     back (late_puts notice content.late_withdrawal) (late_own notice content.late_withdrawal)
     (front (map (reserving_line_put s.lines content.lots) content.lots ++ map (new_lot_put notice) content.lots)
     (on-append own (map (reserving_line_put s.lines content.lots) content.lots) (map (new_lot_put notice) content.lots) (on-map own (reserving_line_put s.lines content.lots) content.lots (λ _. refl)) (on-map own (new_lot_put notice) content.lots (λ _. refl)))
-    (counted notice (notice_row t notice content) _ [] refl (omega (arith, old)) (omega arith) (subst (λ o. AsksAsBefore o (notice_row t notice content)) (sym (absent (notice_at notice s) new)) tt) tt refl (omega arith)))
+    (counted notice (notice_row t notice content) _ [] refl (omega (arith, old)) (omega arith) (subst (λ o. AsksAsBefore o (notice_row t notice content)) (sym (absent (notice_at notice s) new)) tt) refl tt refl (omega arith)))
 
 module _ (s u : Tables) (g : Grows s u) where
   published_lots : (notice : List ℕ) → IsSome (notice_at notice u) → (lots : List NewLot) → OnLines s.lines lots → AllByRecursion (λ (l : NewLot). Parents u (new_lot_put notice l)) lots
@@ -94,9 +96,6 @@ plain s t notice content =
 
 pub publish : (notice : List ℕ) (content : NewNotice) → Lawful (Publish notice content)
 publish notice content = record {
-  touches = Lines ∷ Lots ∷ LateRules ∷ [];
-  alone = (refl, refl, refl);
-  beside = (refl, refl);
   accounts = Moving (λ readings xs s moment caller kept order own allowed. publish_keeps readings xs s moment caller notice content kept order own allowed);
   fates = λ readings. publish_fates.publish_keeps readings notice content;
   tail = λ readings s moment caller have allowed.
@@ -112,4 +111,5 @@ publish notice content = record {
       let passes = none_holds (publish_tests (publish_rows s notice) (max moment s.clock.moment) content) allowed in
       no_rows_of_notice s whole.parents whole.order notice (absent (notice_at notice s) passes.1.0);
   alike = λ th W s es' ss' all seals readings t caller quiet. plain_pairs th W (publish_puts (record { notice = None; lines = s.lines; clock = s.clock }) t notice content) (plain s t notice content);
+  gentle = publish_gently notice content;
 }

@@ -4,7 +4,6 @@ use Rattle.office_commands.specs.declared.commands.Command.TheVariants.{Register
 use Rattle.office_base.specs.declared.puts.Put.TheVariants as puts
 use Rattle.tender_core.specs.Rules.Register.{register_puts}
 use Rattle.office_machine.specs.Machine.{time_of}
-use Rattle.office_machine.proofs.Commands.Footprint.{Others}
 use Rattle.office_machine.proofs.Worlds.WorldsPut.{Plain}
 use Rattle.office_machine.proofs.Commands.Lawful.{Lawful, Idle, given}
 use Rattle.office_machine.proofs.FateLaws.QuietFates.{kept_after, one_more}
@@ -12,9 +11,6 @@ use Rattle.office_machine.proofs.Commands.Tail.{front, quiet}
 
 pub register : (tenderer name address key : List ℕ) → Lawful (Register tenderer name address key)
 register tenderer name address key = record {
-  touches = Others ∷ [];
-  alone = (refl, refl, refl);
-  beside = (refl, refl);
   accounts = Idle refl (λ s moment caller xs. record { moves_none = refl; held = λ _. refl; none_brought = λ _. refl; none_taken = λ _. refl });
   fates = λ readings xs s moment caller kept own allowed.
       let x = given s moment caller (Register tenderer name address key) in
@@ -23,4 +19,5 @@ register tenderer name address key = record {
   parents = λ readings s moment caller order have registered may allowed u grown later. (tt, (tt, tt));
   lacks = λ xs s moment caller whole allowed. refl;
   alike = λ th W s es' ss' all seals readings t caller quiet. (Plain tt refl, (Plain tt refl, tt));
+  gentle = λ readings s moment caller order allowed whole. ((refl, tt), ((refl, tt), tt));
 }

@@ -1,6 +1,7 @@
 -- The signing of a contract keeps the laws of the office.
 pub mod Accounts
 pub mod Fates
+pub mod Gentle
 use Rattle.std.specs.Prelude.{max, ℕ, Option, option_and_then, IsSome}
 use Rattle.std.proofs.Common.{[], ◌∷◌, refl, ◌≡◌, Bool, true, false, List, ◌++◌, map, filter, Some, None, is_some, option_map, sym, ◌∙◌, ap, arith, subst, not, ◌||◌}
 use Rattle.std.specs.List.{AllByRecursion}
@@ -21,12 +22,12 @@ use Rattle.award_core.specs.Rules.Sign.{sign_tests, sign_rows, sign_puts, sign_p
 use Rattle.office_machine.specs.Worlds.{ChosenTender, Pairs}
 use Rattle.office_machine.specs.Parents.{HaveParents}
 use Rattle.office_machine.proofs.Worlds.WorldsPut.{Alike, plain-map, plain-append, plain-if, IsPlain, PutPair, blind-option, plain_pairs}
-use Rattle.office_machine.proofs.Parents.NoOrphans.{contract_is_new, winner_has_security}
+use Rattle.office_machine.proofs.Parents.NoOrphans.{contract_is_new, price_is_reserved, winner_has_security}
 use Rattle.office_machine.proofs.Parents.ParentsPut.{Grows, grows-puts, AllParents, envelope_still, award_still, parents-append, parents-if}
 use Rattle.office_machine.proofs.Worlds.WorldsRows.{awarded_pair}
 use Rattle.office_machine.proofs.Parents.RowsHave.{lot_securities, lot_of}
 use Rattle.office_machine.proofs.Commands.Sign.Accounts.{sign_keeps}
-use Rattle.office_machine.proofs.Commands.Footprint.{Lots, Securities, Awards, Contracts}
+use Rattle.office_machine.proofs.Commands.Footprint.{touches}
 use Rattle.office_machine.proofs.Commands.Lawful.{Lawful, Moving}
 use Rattle.office_machine.proofs.Passed.{none_holds, not_false}
 use Rattle.office_machine.proofs.Parents.SpokenOf.{of_award}
@@ -34,6 +35,7 @@ use Rattle.office_machine.proofs.Commands.Tail.{moved, bound, bonded, front, lou
 use Rattle.office_machine.proofs.Rows.Keyed.{found_put}
 use Rattle.office_machine.proofs.Commands.Sign.Fates as sign_fates
 use Rattle.office_machine.proofs.Rows.Keyed as keyed
+use Rattle.office_machine.proofs.Commands.Sign.Gentle.{sign_gently}
 
 -- the contract exists after its signing
 contract_made : (s : Tables) (clock : ClockRow) (t : ℕ) (a : AwardRow) (n : NoticeRow) (l : LotRow) (o : Option EnvelopeRow) (rows : List SecurityRow) (rest : List Put) → IsSome (contract_at a.award (after_puts (sign_parts clock t a n l o rows ++ rest) s))
@@ -97,9 +99,6 @@ none_lacking s have award (Some a) is = let h = have.awards award a is in λ i. 
 
 pub sign : (award : ℕ) (named : Option NamedSecurity) → Lawful (Sign award named)
 sign award named = record {
-  touches = Awards ∷ Lots ∷ Contracts ∷ Securities ∷ [];
-  alone = (refl, refl, refl);
-  beside = (refl, refl);
   accounts = Moving (λ readings xs s moment caller kept order own allowed. sign_keeps readings xs s moment caller award named kept order allowed);
   fates = λ readings. sign_fates.sign_keeps readings award named;
   tail = λ readings s moment caller have allowed.
@@ -110,13 +109,15 @@ sign award named = record {
       moved (ap (option_map (λ (a : AwardRow). a.notice)) of.is)
       (λ i. sign_puts (record { award = of.is i; notice = of.notice i; lot = of.lot i; envelope = (envelope_of_award (award_at award s) s); securities = securities; clock = s.clock }) now named)
       (bound (ap (option_and_then (λ (w : AwardRow). option_map (performance_row w) named)) of.is)
-      (bonded (performance_row of.w) named
+      (bonded (performance_row of.w) named refl
       (front (puts.Award _ ∷ puts.Lot _ ∷ puts.Contract _ ∷ []) (refl, (refl, (refl, tt)))
-      (loud of.w.notice of.n (with_next_release of.n) _ _ of.notice_is (ap has_all_releases (of.notice_is ∙ sym of.notice) ∙ tests.1.1.1.1.1.1.1.0) refl refl refl (returned_own (Awards ∷ Lots ∷ Contracts ∷ Securities ∷ []) refl securities) refl (omega arith)))));
+      (loud of.w.notice of.n (with_next_release of.n) _ _ of.notice_is (ap has_all_releases (of.notice_is ∙ sym of.notice) ∙ tests.1.1.1.1.1.1.1.0) refl refl refl refl (returned_own (touches (Sign award named)) refl securities) refl (omega arith)))));
   parents = λ readings s moment caller order have registered may allowed u grown later. parents_of s u have grown order s.clock _ award named (award_at award s) (notice_of_award (award_at award s) s) (lot_of_award (award_at award s) s) refl refl later;
   lacks = λ xs s moment caller whole allowed.
       let tests = none_holds (sign_tests (sign_rows s award) (max moment s.clock.moment) named) allowed in
-      λ i. none_lacking s whole.parents award (award_at award s) refl i || contract_is_new xs s whole.accounts award tests.1.1.1.1.0 i
-      || winner_has_security xs s whole (award_at award s) i;
+      λ i. none_lacking s whole.parents award (award_at award s) refl i || contract_is_new xs s whole award tests.1.1.1.1.0 i
+      || winner_has_security xs s whole (award_at award s) i
+      || price_is_reserved xs s whole award (award_at award s) refl tests.1.1.1.1.0 i;
   alike = λ th W s es' ss' all seals readings t caller quiet. alike th W s es' all t award named;
+  gentle = sign_gently award named;
 }

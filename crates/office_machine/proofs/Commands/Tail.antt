@@ -34,19 +34,17 @@ is_own names Clock = false
 is_own names Performances = false
 is_own names name = is_in names name
 
--- the tables of a command's own rows, and those that any command may put besides
+-- the tables that a command names, and the clock
 abbrev pub is_touched : List TableName → TableName → Bool
-is_touched names Notices = true
 is_touched names Clock = true
-is_touched names Performances = true
 is_touched names Releases = false
 is_touched names Merges = false
 is_touched names name = is_in names name
 
 own_touched : (names : List TableName) (name : TableName) → is_own names name ≡ true → is_touched names name ≡ true
-own_touched names Notices own = refl
+own_touched names Notices own = cc
 own_touched names Clock own = refl
-own_touched names Performances own = refl
+own_touched names Performances own = cc
 own_touched names _ own = own
 
 on_touched : (names : List TableName) (ps : List Put) → AreOn (is_own names) ps → AreOn (is_touched names) ps
@@ -140,9 +138,9 @@ abbrev pub is_bond : TableName → Bool
 is_bond Performances = true
 is_bond name = false
 
-pub bonded : {s : Tables} {t : ℕ} {names : List TableName} {key : Option (List ℕ)} {ps : List Put} {X : Type 0} (make : X → PerformanceRow) (o : Option X) → HasTail s t names key None ps
+pub bonded : {s : Tables} {t : ℕ} {names : List TableName} {key : Option (List ℕ)} {ps : List Put} {X : Type 0} (make : X → PerformanceRow) (o : Option X) → is_in names Performances ≡ true → HasTail s t names key None ps
     → HasTail s t names key (option_map make o) (ps ++ put_if (λ x. puts.Performance (make x)) o)
-bonded {names = names} {ps = ps} {X = X} make o h =
+bonded {names = names} {ps = ps} {X = X} make o named h =
     let rest : List Put = put_if (λ x. puts.Performance (make x)) o in
     let on : AreOn is_bond rest = on-if is_bond (λ x. puts.Performance (make x)) o (λ _. refl) in
     record {
@@ -156,7 +154,7 @@ bonded {names = names} {ps = ps} {X = X} make o h =
       moment = h.moment;
       counts = h.counts;
       drawn = h.drawn;
-      touched = on-append (is_touched names) ps rest h.touched (on-if (is_touched names) (λ x. puts.Performance (make x)) o (λ _. refl));
+      touched = on-append (is_touched names) ps rest h.touched (on-if (is_touched names) (λ x. puts.Performance (make x)) o (λ _. named));
     }
   where
     by : (o : Option X) (u : Tables) → (after_puts (put_if (λ x. puts.Performance (make x)) o) u).performances ≡ with_performance (option_map make o) u.performances
@@ -176,9 +174,9 @@ quiet {names = names} clock rest own moment drawn = record { notice = None; cloc
 
 -- the counted notice, followed by the clock and own rows
 pub counted : {s : Tables} {t : ℕ} {names : List TableName} (key : List ℕ) (row : NoticeRow) (clock : ClockRow) (rest : List Put) → row.notice ≡ key
-    → row.releases ≡ releases_in (notice_at key s) + 1 → row.releases ≤ release_limit → AsksAsBefore (notice_at key s) row → AreOn (is_own names) rest → clock.moment ≡ t → s.clock.awards ≤ clock.awards
+    → row.releases ≡ releases_in (notice_at key s) + 1 → row.releases ≤ release_limit → AsksAsBefore (notice_at key s) row → is_in names Notices ≡ true → AreOn (is_own names) rest → clock.moment ≡ t → s.clock.awards ≤ clock.awards
     → HasTail s t names (Some key) None (puts.Notice row ∷ puts.Clock clock ∷ rest)
-counted {names = names} key row clock rest at more few asked own moment drawn =
+counted {names = names} key row clock rest at more few asked named own moment drawn =
     let tail = ending names clock rest own in
     record {
       notice = Some row;
@@ -191,25 +189,25 @@ counted {names = names} key row clock rest at more few asked own moment drawn =
       moment = moment;
       counts = (at, more, few, asked);
       drawn = drawn;
-      touched = (refl, (refl, on_touched names rest own));
+      touched = (named, (refl, on_touched names rest own));
     }
 
 -- a notice that existed is counted, followed by the clock and own rows
 pub loud : {s : Tables} {t : ℕ} {names : List TableName} (key : List ℕ) (n row : NoticeRow) (clock : ClockRow) (rest : List Put) → notice_at key s ≡ Some n
-    → has_all_releases (notice_at key s) ≡ false → row.notice ≡ n.notice → row.releases ≡ n.releases + 1 → row.performance ≡ n.performance → AreOn (is_own names) rest → clock.moment ≡ t → s.clock.awards ≤ clock.awards
+    → has_all_releases (notice_at key s) ≡ false → row.notice ≡ n.notice → row.releases ≡ n.releases + 1 → row.performance ≡ n.performance → is_in names Notices ≡ true → AreOn (is_own names) rest → clock.moment ≡ t → s.clock.awards ≤ clock.awards
     → HasTail s t names (Some key) None (puts.Notice row ∷ puts.Clock clock ∷ rest)
-loud {s = s} key n row clock rest is full same more asked own moment drawn =
+loud {s = s} key n row clock rest is full same more asked named own moment drawn =
     let few : nat_le release_limit n.releases ≡ false = sym (ap has_all_releases is) ∙ full in
     let under : n.releases < release_limit = grind (arith, nat_tests) in
     let old = ap releases_in is in
-    counted key row clock rest (same ∙ found_key keyed.notices s.notices key n is) (omega (arith, more, old)) (omega (arith, more, under)) (subst (λ o. AsksAsBefore o row) (sym is) asked) own moment drawn
+    counted key row clock rest (same ∙ found_key keyed.notices s.notices key n is) (omega (arith, more, old)) (omega (arith, more, under)) (subst (λ o. AsksAsBefore o row) (sym is) asked) named own moment drawn
 
 pub returned_own : (names : List TableName) → is_own names Securities ≡ true → (rows : List SecurityRow) → AreOn (is_own names) (securities_returned rows)
 returned_own names own rows = on-map (is_own names) security_returned (filter is_held_security rows) (λ _. own)
 
 -- a command on a contract that exists counts the contract's notice
-pub on_contract : {s : Tables} {t : ℕ} {names : List TableName} (contract : ℕ) (of : OfContract s contract) → has_all_releases (notice_of_contract (contract_at contract s) s) ≡ false
+pub on_contract : {s : Tables} {t : ℕ} {names : List TableName} (contract : ℕ) (of : OfContract s contract) → is_in names Notices ≡ true → has_all_releases (notice_of_contract (contract_at contract s) s) ≡ false
     → HasTail s t names (option_map (λ (c : ContractRow). c.notice) (contract_at contract s)) None (puts.Notice (with_next_release of.n) ∷ puts.Clock (record s.clock { moment = t }) ∷ [])
-on_contract {s = s} contract of full =
+on_contract {s = s} contract of named full =
     moved (ap (option_map (λ (c : ContractRow). c.notice)) of.is) refl
-    (loud of.c.notice of.n (with_next_release of.n) _ [] of.notice_is (ap has_all_releases (of.notice_is ∙ sym of.notice) ∙ full) refl refl refl tt refl (omega arith))
+    (loud of.c.notice of.n (with_next_release of.n) _ [] of.notice_is (ap has_all_releases (of.notice_is ∙ sym of.notice) ∙ full) refl refl refl named tt refl (omega arith))

@@ -1,5 +1,6 @@
 -- The withdrawal of a tender keeps the laws of the office.
 pub mod Fates
+pub mod Gentle
 use Rattle.std.specs.Prelude.{max}
 use Rattle.std.proofs.Common.{arith, ℕ, Bool, true, false, [], ◌∷◌, Option, None, refl, ◌≡◌, List, Some, ap, subst, sym, not, ◌||◌}
 use Rattle.office_commands.specs.declared.commands.Command.TheVariants.{Withdraw}
@@ -29,6 +30,7 @@ use Rattle.office_machine.proofs.Commands.Lawful.{Lawful, Idle}
 use Rattle.office_machine.proofs.Passed.{none_holds, not_false, witness}
 use Rattle.office_machine.proofs.Commands.Tail.{HasTail, is_own, moved, front, quiet}
 use Rattle.office_machine.proofs.Commands.Withdraw.Fates as withdraw_fates
+use Rattle.office_machine.proofs.Commands.Withdraw.Gentle.{withdraw_gently}
 
 -- the puts of the command
 tail_of : (s : Tables) (t : ℕ) (e : EnvelopeRow) (security : Option SecurityRow) (late : Bool) → HasTail s t (Envelopes ∷ Seals ∷ Securities ∷ []) None None (taken_back_puts s.clock t e security late)
@@ -94,9 +96,6 @@ none_lacking s have receipt (Some e) is = let h = have.envelopes receipt e is in
 
 pub withdraw : (receipt : ℕ) → Lawful (Withdraw receipt)
 withdraw receipt = record {
-  touches = Envelopes ∷ Seals ∷ Securities ∷ [];
-  alone = (refl, refl, refl);
-  beside = (refl, refl);
   accounts = Idle refl (λ s moment caller xs. record { moves_none = refl; held = λ _. refl; none_brought = λ _. refl; none_taken = λ _. refl });
   fates = λ readings. withdraw_fates.withdraw_keeps readings receipt;
   tail = λ readings s moment caller have allowed.
@@ -114,4 +113,5 @@ withdraw receipt = record {
       none_lacking s whole.parents receipt (envelope_at receipt s) refl i
       || has_seal xs s whole (is_late rows.late now rows.notice) receipt (envelope_at receipt s) refl tests.1.1.1.0 i;
   alike = λ th W s es' ss' all seals readings t caller quiet. alike th W s es' all t receipt;
+  gentle = withdraw_gently receipt;
 }

@@ -11,7 +11,6 @@ use Rattle.office_base.specs.declared.records.EnvelopeRow.{EnvelopeRow}
 use Rattle.office_base.specs.declared.records.SecurityRow.{SecurityRow}
 use Rattle.office_base.specs.declared.records.EnvelopeState.TheVariants as envelope
 use Rattle.office_base.specs.declared.records.EnvelopeState.{EnvelopeState}
-use Rattle.office_base.specs.declared.records.SecurityState.TheVariants as security
 use Rattle.office_base.specs.declared.records.LotState.{LotState}
 use Rattle.office_base.specs.States.{is_sealed, is_held}
 use Rattle.office_base.specs.Transitions.{is_past_deadline}
@@ -24,8 +23,8 @@ use Rattle.office_base.proofs.RowLaws.Keyed.{found_key}
 use Rattle.office_machine.proofs.Rows.Counting.{is_live}
 use Rattle.office_machine.proofs.FateLaws.Views.{View, IsSound, EnvelopeFits, Change, IsFair, after_change, sound_changed}
 use Rattle.office_machine.proofs.FateLaws.Matched.{EnvelopeKeeps, SecurityKeeps, EnvelopesMatch}
-use Rattle.office_machine.proofs.FateLaws.Seen.{seen, AreInOrder, OnLines}
-use Rattle.office_machine.proofs.FateLaws.FatesHold.{FatesStand, tenders_changed, named_changed}
+use Rattle.office_machine.proofs.FateLaws.Seen.{seen}
+use Rattle.office_machine.proofs.FateLaws.FatesHold.{FatesStand, HaveFates, tenders_changed, named_changed}
 use Rattle.office_machine.proofs.Rows.Keyed as keyed
 
 -- the command changes tenders, seals and securities as it decides about them
@@ -46,9 +45,8 @@ pub record Decides (digest : List ℕ → List ℕ) (xs : List Given) (x : Given
       → (c.security_to s w).state ≡ cond (is_held w.state) (security_decided x.command x (received_at xs) s) w.state
 
 pub kept_by_change : (readings : Readings) (xs : List Given) (x : Given) (t u : Tables) (c : Change) → FatesStand readings xs t → IsFair c (seen t)
-    → Decides readings.digest xs x t u c
-    → OnLines u.lines u.lots → AreInOrder u → FatesStand readings (x ∷ xs) u
-kept_by_change readings xs x t u c kept fair d lines order = record {
+    → Decides readings.digest xs x t u c → HaveFates readings (x ∷ xs) u
+kept_by_change readings xs x t u c kept fair d = record {
   sound = subst IsSound (sym d.seen_is) (sound_changed c (seen t) kept.sound fair);
   tenders =
       subst (λ (n : ℕ). EnvelopesMatch readings.digest (received_at (x ∷ xs)) (fate_of_tender (x ∷ xs)) (λ r. seal_at r u) n (λ r. envelope_at r u)) (sym d.receipts_are)
@@ -56,8 +54,6 @@ kept_by_change readings xs x t u c kept fair d lines order = record {
       c.envelope_to d.e_keeps (λ r. ap (λ (V : View). V.envelope_at r) d.seen_is) d.tender_goes d.seal_goes d.no_seal);
   named =
       named_changed readings.digest xs x d.none (λ s. security_at s t) (λ s. security_at s u) kept.named c.security_to d.s_keeps (λ s. ap (λ (V : View). V.security_at s) d.seen_is) d.security_goes;
-  lines = lines;
-  order = order;
 }
 
 pub is_sealed_state : (s : EnvelopeState) → not (is_sealed s) ≡ false → s ≡ envelope.Sealed

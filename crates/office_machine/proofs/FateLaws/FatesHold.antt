@@ -13,21 +13,29 @@ use Rattle.office_base.specs.declared.records.SecurityState.TheVariants as secur
 use Rattle.office_base.specs.declared.records.SecurityState.{SecurityState}
 use Rattle.office_base.specs.States.{is_sealed, is_held}
 use Rattle.office_base.specs.Rules.{first_of}
-use Rattle.office_base.specs.Tables.{Tables, envelope_at, seal_at, security_at, after_puts}
+use Rattle.office_base.specs.Tables.{IsSorted, Tables, envelope_at, seal_at, security_at, after_puts}
 use Rattle.office_commands.specs.Commands.{IsCommand}
+use Rattle.office_machine.specs.Parents.{HaveParents}
 use Rattle.office_machine.specs.Machine.{Given, tests_for, puts_for}
 use Rattle.office_machine.specs.Readings.{Readings}
 use Rattle.office_machine.specs.Fates.{Reception, received_by, received_after, received_at, tender_decided, fate_after, fate_of_tender, security_received, security_decided, security_after, fate_of_security, is_kept, EnvelopeIs, SecurityIs}
 use Rattle.office_machine.proofs.FateLaws.Views.{IsSound}
 use Rattle.office_machine.proofs.FateLaws.Matched.{EnvelopesMatch, EnvelopeKeeps, envelopes_changed, SecuritiesMatch, SecurityKeeps, named_in, securities_changed}
-use Rattle.office_machine.proofs.FateLaws.Seen.{seen, AreInOrder, OnLines}
+use Rattle.office_machine.proofs.FateLaws.Seen.{seen}
 
+-- the rows of tenders and securities have their fates
+pub record HaveFates (readings : Readings) (xs : List Given) (t : Tables) : Type 0 where
+  pub sound : IsSound (seen t)
+  pub tenders : EnvelopesMatch readings.digest (received_at xs) (fate_of_tender xs) (λ r. seal_at r t) t.clock.receipts (λ r. envelope_at r t)
+  pub named : SecuritiesMatch (received_at xs) (fate_of_security xs) (λ s. security_at s t)
+
+-- and the tables are those of a reached office
 pub record FatesStand (readings : Readings) (xs : List Given) (t : Tables) : Type 0 where
   pub sound : IsSound (seen t)
   pub tenders : EnvelopesMatch readings.digest (received_at xs) (fate_of_tender xs) (λ r. seal_at r t) t.clock.receipts (λ r. envelope_at r t)
   pub named : SecuritiesMatch (received_at xs) (fate_of_security xs) (λ s. security_at s t)
-  pub lines : OnLines t.lines t.lots
-  pub order : AreInOrder t
+  pub parents : HaveParents t t
+  pub order : IsSorted t
 
 abbrev pub given : Tables → ℕ → Caller → Command → Given
 given t m caller command = record { before = t; moment = m; caller = caller; command = command }
@@ -35,7 +43,7 @@ given t m caller command = record { before = t; moment = m; caller = caller; com
 abbrev pub Keeps : Readings → Command → Type 0
 Keeps readings command = (xs : List Given) (t : Tables) (m : ℕ) (caller : Caller) → FatesStand readings xs t → IsCommand command
     → first_of (tests_for t (max m t.clock.moment) caller command) ≡ None
-    → FatesStand readings (given t m caller command ∷ xs) (after_puts (puts_for readings t (max m t.clock.moment) caller command) t)
+    → HaveFates readings (given t m caller command ∷ xs) (after_puts (puts_for readings t (max m t.clock.moment) caller command) t)
 
 -- a decided fate remains, and an undecided one is decided now
 fate_step : (st : EnvelopeState) (now : Option Reception) (d : EnvelopeState) → fate_after (Some st) now d ≡ Some (cond (is_sealed st) d st)

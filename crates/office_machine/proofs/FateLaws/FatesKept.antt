@@ -13,17 +13,19 @@ use Rattle.office_base.specs.declared.records.CompiledRow.{CompiledRow}
 use Rattle.office_machine.specs.Fates.{Reception, received_at, fate_of_tender, fate_of_security, TenderIs, NamedIs, HasFate, TendersAreKept, SecuritiesAreKept}
 use Rattle.office_machine.proofs.FateLaws.Matched.{EnvelopeStands, NoneStands, SecurityStands, named_in}
 use Rattle.office_machine.proofs.FateLaws.Seen.{after-append}
-use Rattle.office_machine.proofs.FateLaws.FatesHold.{FatesStand}
+use Rattle.office_machine.proofs.FateLaws.FatesHold.{FatesStand, HaveFates}
 use Rattle.office_machine.proofs.FateLaws.QuietFates.{publication_keeps}
 use Rattle.office_machine.proofs.Commands.{lawful}
 use Rattle.office_machine.proofs.Runs.{along}
 use Rattle.office_machine.proofs.Passed.{allowed_by}
+use Rattle.office_machine.proofs.Parents.ParentsThere.{parents_there}
+use Rattle.office_machine.proofs.Rows.SortedTables.{sorted}
 use Rattle.office_machine.proofs.Rows.Numbered.{FindsAll, keys_are}
 
 nothing : {X : Type 0} {A : Type 0} (x : X) → None ≡ Some x → A
 nothing x h = absurd cc
 
-start : (means : Means) → FatesStand means.readings [] no_tables
+start : (means : Means) → HaveFates means.readings [] no_tables
 unfolding row_at
 start means = record {
   sound = record {
@@ -41,22 +43,27 @@ start means = record {
     all = λ r h. zero_or_more r;
   };
   named = record { there = λ s w h. nothing w h; none = λ s h. record { none_named = refl; no_fate = refl } };
-  lines = tt;
-  order = (tt, tt, tt, tt, tt);
 } where
   zero_or_more : (r : ℕ) → (0 < r) ⊎ (r ≡ 0)
   zero_or_more r = grind arith
 
 -- merges of releases beside the office don't change the fates
-kept_beside : (means : Means) (merges : List CompiledRow) (xs : List Given) (t : Tables) → FatesStand means.readings xs t → FatesStand means.readings xs (with_merges merges t)
-kept_beside means merges xs t k = record { sound = k.sound; tenders = k.tenders; named = k.named; lines = k.lines; order = k.order }
+kept_beside : (means : Means) (merges : List CompiledRow) (xs : List Given) (t : Tables) → HaveFates means.readings xs t → HaveFates means.readings xs (with_merges merges t)
+kept_beside means merges xs t k = record { sound = k.sound; tenders = k.tenders; named = k.named }
 
-pub all_kept : (means : Means) (xs : List Given) (t : Tables) → Reaches means xs t → FatesStand means.readings xs t
-all_kept means = along means (FatesStand means.readings) (start means) (λ merges in_order xs t of_notices. kept_beside means merges xs t)
-    (λ xs x accepted kept. subst (FatesStand means.readings (x ∷ xs))
+-- in a reached office
+stands : (means : Means) (xs : List Given) (t : Tables) → Reaches means xs t → HaveFates means.readings xs t → FatesStand means.readings xs t
+stands means xs t reached h = record { sound = h.sound; tenders = h.tenders; named = h.named; parents = parents_there means xs t reached; order = sorted means xs t reached }
+
+have_fates : (means : Means) (xs : List Given) (t : Tables) → Reaches means xs t → HaveFates means.readings xs t
+have_fates means = along means (HaveFates means.readings) (start means) (λ merges in_order xs t of_notices. kept_beside means merges xs t)
+    (λ xs x accepted kept. subst (HaveFates means.readings (x ∷ xs))
     (sym (after-append (effect means.readings x) (publication_puts (publication means x)) x.before))
     (publication_keeps means.readings (x ∷ xs) (after_puts (effect means.readings x) x.before) (publication means x)
-    ((lawful x.command).fates means.readings xs x.before x.moment x.caller kept accepted.given.0 (allowed_by x accepted.allowed))))
+    ((lawful x.command).fates means.readings xs x.before x.moment x.caller (stands means xs x.before accepted.reached kept) accepted.given.0 (allowed_by x accepted.allowed))))
+
+pub all_kept : (means : Means) (xs : List Given) (t : Tables) → Reaches means xs t → FatesStand means.readings xs t
+all_kept means xs t reached = stands means xs t reached (have_fates means xs t reached)
 
 tender_there : (digest : List ℕ → List ℕ) (r : ℕ) (o : Option Reception) (fate : Option EnvelopeState) (e : EnvelopeRow) (seal : Option SealRow)
     → EnvelopeStands digest r o fate e seal
@@ -91,9 +98,9 @@ pub tenders_kept : TendersAreKept
 tenders_kept means xs t reached =
     let kept = all_kept means xs t reached in
     record {
-      numbered = keys_are envelope_key t.clock.receipts 1 t.envelopes kept.order.0 (finds means xs t kept);
+      numbered = keys_are envelope_key t.clock.receipts 1 t.envelopes kept.order.envelopes (finds means xs t kept);
       each = λ r. tender_by means xs t kept r (envelope_at r t) refl;
-      seals_in_order = kept.order.1;
+      seals_in_order = kept.order.seals;
     }
 
 named_there : (s : ℕ) (o : Option Reception) (fate : Option SecurityState) (w : SecurityRow) → SecurityStands s o fate w → HasFate s o fate (Some w)
@@ -112,4 +119,4 @@ security_by means xs t kept s (Some w) at = named_there s (received_at xs s) (fa
 pub securities_kept : SecuritiesAreKept
 securities_kept means xs t reached =
     let kept = all_kept means xs t reached in
-    record { each = λ s. security_by means xs t kept s (security_at s t) refl; in_order = kept.order.2 }
+    record { each = λ s. security_by means xs t kept s (security_at s t) refl; in_order = kept.order.securities }

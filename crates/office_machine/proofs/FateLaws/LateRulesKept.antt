@@ -21,20 +21,13 @@ use Rattle.tender_core.specs.Rules.Publish.{late_puts, reserving_line_put, new_l
 use Rattle.office_machine.specs.Late.{LateRulesAreKept, is_forfeiting, late_row, lets_late, was_let_late}
 use Rattle.office_machine.specs.Machine.{Given, Means, Reaches, command_tests, effect, publication, publication_puts, time_of}
 use Rattle.office_machine.proofs.Accounts.Aside.{after-append}
-use Rattle.office_machine.proofs.Commands.{lawful}
-use Rattle.office_machine.proofs.Commands.Footprint.{TableName, LateRules, AreOn, leaves, on-append, on-map}
-use Rattle.office_machine.proofs.Commands.Lawful.{puts_late_rules}
+use Rattle.office_machine.proofs.Commands.Footprint.{TableName, LateRules, AreOn, leaves, on-append, on-map, touches}
 use Rattle.office_machine.proofs.Commands.Tail.{is_touched}
-use Rattle.office_machine.proofs.Parents.ParentsThere.{parents_there}
 use Rattle.office_machine.proofs.Passed.{allowed_by}
 use Rattle.office_machine.proofs.Rows.Keyed.{elsewhere, found_put}
 use Rattle.office_machine.proofs.Runs.{along}
+use Rattle.office_machine.proofs.Untouched.{tail_of}
 use Rattle.office_machine.proofs.Rows.Keyed as keyed
-
--- a command that isn't a publication allows no late withdrawals
-none_let : (notice : List ℕ) (command : Command) → puts_late_rules command ≡ false → lets_late notice command ≡ false
-none_let notice (Publish name content) other = absurd (let no : true ≡ false = other in cc)
-none_let notice _ other = refl
 
 -- the rule on late withdrawals is put after rows of other tables
 abbrev isnt_late : TableName → Bool
@@ -88,12 +81,11 @@ module _ (means : Means) (xs : List Given) (s : Tables) (moment : ℕ) (caller :
   abbrev Keeps : Command → Type 0
   Keeps command = AreKept (given command ∷ xs) (after_puts (effect means.readings (given command)) s)
 
-  other : (command : Command) → puts_late_rules command ≡ false → first_of (command_tests (given command)) ≡ None → Keeps command
-  other command is allowed q =
-      let tail = (lawful command).tail means.readings s moment caller (parents_there means xs s reached) allowed in
-      ap (λ rows. find_late rows q) ((leaves (is_touched (lawful command).touches) (effect means.readings (given command)) s tail.touched).late_rules ((lawful command).alone.1 ∙ is))
+  other : (command : Command) → is_touched (touches command) LateRules ≡ false → ((notice : List ℕ) → lets_late notice command ≡ false) → first_of (command_tests (given command)) ≡ None → Keeps command
+  other command off none allowed q =
+      ap (λ rows. find_late rows q) ((leaves (is_touched (touches command)) (effect means.readings (given command)) s (tail_of means xs s moment caller reached command allowed).touched).late_rules off)
       ∙ kept q
-      ∙ ap (λ b. cond (b || was_let_late xs q) (Some (late_row q)) None) (sym (none_let q command is))
+      ∙ ap (λ b. cond (b || was_let_late xs q) (Some (late_row q)) None) (sym (none q))
 
   one_kept : (command : Command) → first_of (command_tests (given command)) ≡ None → Keeps command
   one_kept (Publish notice content) allowed q =
@@ -101,7 +93,7 @@ module _ (means : Means) (xs : List Given) (s : Tables) (moment : ℕ) (caller :
       ∙ row_by content.late_withdrawal notice s.late_rules q (same_id notice q) refl
       ∙ ap (cond (same_id notice q && is_forfeiting content.late_withdrawal) (Some (late_row q))) (kept q)
       ∙ either (same_id notice q && is_forfeiting content.late_withdrawal) (was_let_late xs q) (Some (late_row q))
-  one_kept command allowed q = other command refl allowed q
+  one_kept command allowed q = other command refl (λ notice. refl) allowed q
 
 -- the put of a release leaves the rules on late withdrawals
 published_kept : (xs : List Given) (t : Tables) (p : Option ReleaseRow) → AreKept xs t → AreKept xs (after_puts (publication_puts p) t)

@@ -17,7 +17,7 @@ use Rattle.office_base.specs.declared.records.LotState.{LotState}
 use Rattle.office_base.specs.declared.records.NoticeState.TheVariants as notice
 use Rattle.office_base.specs.States.{is_held, is_sealed}
 use Rattle.office_base.specs.Transitions.{is_held_security, returned}
-use Rattle.office_base.specs.Tables.{Tables, lot_cmp, security_key, envelope_at, seal_at, security_at, securities_of_lot, find_security}
+use Rattle.office_base.specs.Tables.{IsSorted, Tables, lot_cmp, security_key, envelope_at, seal_at, security_at, securities_of_lot, find_security}
 use Rattle.office_machine.specs.Machine.{Given}
 use Rattle.office_machine.specs.Readings.{Readings}
 use Rattle.office_machine.specs.Fates.{Reception, received_by, received_at, is_received_for, tender_decided, security_decided, fate_of_security, SecurityIs}
@@ -28,8 +28,8 @@ use Rattle.office_base.proofs.RowLaws.Filters.{filter_filter}
 use Rattle.office_machine.proofs.FateLaws.Views.{Change, after_change}
 use Rattle.office_machine.proofs.FateLaws.Steps.{cond_keeps, both_true}
 use Rattle.office_machine.proofs.FateLaws.Decisions.{closing, fair_closing}
-use Rattle.office_machine.proofs.FateLaws.Seen.{seen, alike, AreInOrder, OnLines}
-use Rattle.office_machine.proofs.FateLaws.FatesHold.{FatesStand, still_sealed, all_keep}
+use Rattle.office_machine.proofs.FateLaws.Seen.{seen, alike}
+use Rattle.office_machine.proofs.FateLaws.FatesHold.{FatesStand, HaveFates, still_sealed, all_keep}
 use Rattle.office_machine.proofs.FateLaws.FatesChanged.{kept_by_change}
 use Rattle.office_machine.proofs.FateLaws.States.{map_same}
 
@@ -58,11 +58,11 @@ returned_by w security.Forfeited true e = e
 returned_by w security.Forfeited false e = e
 
 -- the held securities of the lot are put as returned
-pub securities_go_back : (t : Tables) (n l : List ℕ) (s : ℕ) → AreInOrder t
+pub securities_go_back : (t : Tables) (n l : List ℕ) (s : ℕ) → IsSorted t
     → find_security (rows_put nat_cmp security_key t.securities (map returned (filter is_held_security (securities_of_lot n l t)))) s ≡ option_map (changed (is_held_of n l) returned) (security_at s t)
 securities_go_back t n l s order =
     ap (λ rs. find_security (rows_put nat_cmp security_key t.securities (map returned rs)) s) (filter_filter is_held_security (λ (w : SecurityRow). same_id w.notice n && same_id w.lot l) t.securities)
-    ∙ row_at-changed nat_cmp_total nat_cmp-IsAntisymmetric security_key returned (λ w. refl) (is_held_of n l) t.securities s order.2
+    ∙ row_at-changed nat_cmp_total nat_cmp-IsAntisymmetric security_key returned (λ w. refl) (is_held_of n l) t.securities s order.securities
 
 module _ (readings : Readings) (xs : List Given) (x : Given) (t u : Tables) (kept : FatesStand readings xs t) (n l : List ℕ) (closed : LotState)
     (is_closed : is_live (Some closed) ≡ false)
@@ -81,7 +81,7 @@ module _ (readings : Readings) (xs : List Given) (x : Given) (t u : Tables) (kep
     (awards_are : (a : ℕ) → (seen u).award_at a ≡ option_map (award_to a) ((seen t).award_at a))
     (lots_are : (k : List ℕ × List ℕ) → (seen u).lot_at k ≡ option_map (λ s. cond (eq_by_cmp lot_cmp k (n, l)) closed s) ((seen t).lot_at k))
     (notices_are : (q : List ℕ) → (seen u).notice_at q ≡ (seen t).notice_at q)
-    (receipts_are : u.clock.receipts ≡ t.clock.receipts) (lines : OnLines u.lines u.lots) (order : AreInOrder u) where
+    (receipts_are : u.clock.receipts ≡ t.clock.receipts) where
   abbrev c : Change
   c =
       closing (seen t) kept.sound (n, l) closed is_closed award_to (is_held_of n l) (held_of_all n l) (held_of_only n l) not_receiving a_notice a_lot a_receipt active elsewhere
@@ -95,7 +95,7 @@ module _ (readings : Readings) (xs : List Given) (x : Given) (t u : Tables) (kep
       (ap (λ q. same_id q n && same_id w.lot l) is.of_notice ∙ ap (λ q. same_id a.notice n && same_id q l) is.of_lot ∙ sym (ap (is_received_for n l) came_is))
       ∙ ap (λ d. cond (is_held w.state) d w.state) (sym (decided s))
 
-  pub closing_kept : FatesStand readings (x ∷ xs) u
+  pub closing_kept : HaveFates readings (x ∷ xs) u
   closing_kept =
       kept_by_change readings xs x t u c kept
       (fair_closing (seen t) kept.sound (n, l) closed is_closed award_to (is_held_of n l) (held_of_all n l) (held_of_only n l) not_receiving a_notice a_lot a_receipt active elsewhere)
@@ -118,4 +118,3 @@ module _ (readings : Readings) (xs : List Given) (x : Given) (t u : Tables) (kep
         no_seal = λ r at none. seals_are r ∙ none;
         security_goes = security_goes;
       })
-      lines order

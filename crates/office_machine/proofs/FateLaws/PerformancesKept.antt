@@ -37,10 +37,8 @@ use Rattle.office_machine.specs.Machine.{Given, Means, Reaches, time_of, effect,
 use Rattle.office_machine.specs.Fates.{PerformancesHaveFates, PerformancesAreKept}
 use Rattle.office_machine.specs.Parents.{HaveParents, HavePerformances, PerformancesAreThere}
 use Rattle.office_machine.specs.Publications.{published_for}
-use Rattle.office_machine.proofs.Commands.{lawful}
-use Rattle.office_machine.proofs.Commands.Lawful.{puts_contracts}
 use Rattle.office_machine.proofs.Runs.{along}
-use Rattle.office_machine.proofs.Commands.Footprint.{TableName, Securities, leaves, on-append, on-if, on-map}
+use Rattle.office_machine.proofs.Commands.Footprint.{TableName, Contracts, Performances, Securities, leaves, on-append, on-if, on-map, touches}
 use Rattle.office_machine.proofs.Commands.Tail.{HasTail, bond_for, is_bond, is_touched, with_performance}
 use Rattle.office_machine.proofs.Accounts.Aside.{after-append}
 use Rattle.office_machine.proofs.FateLaws.Added.{equal_numbers}
@@ -53,6 +51,7 @@ use Rattle.office_machine.proofs.Passed.{none_holds, allowed_by, not_and, not_fa
 use Rattle.office_machine.proofs.Rows.Keyed.{found}
 use Rattle.office_machine.proofs.FateLaws.Matched.{same_itself}
 use Rattle.office_base.specs.declared.puts.Put.{Put}
+use Rattle.office_machine.proofs.Untouched.{tail_of}
 use Rattle.office_machine.proofs.Rows.Keyed as keyed
 use Rattle.office_machine.proofs.Rows.RowsChanged.{row_at-changed_put}
 use Rattle.office_base.proofs.RowLaws.Keyed.{found_key}
@@ -116,31 +115,6 @@ record AreKept (xs : List Given) (t : Tables) : Type 0 where
   pub fates : PerformancesHaveFates xs t
   pub asked : HavePerformances t
 
--- a command that is neither a signing nor an end
-abbrev IsOther : Command → Type 0
-IsOther (Sign award named) = ⊥
-IsOther (End contract how) = ⊥
-IsOther command = Unit {0}
-
-none_put : (s : Tables) (command : Command) → IsOther command → bond_for s command ≡ None
-none_put s (Sign award named) other = absurd other
-none_put s (End contract how) other = absurd other
-none_put s _ other = refl
-
-none_named : (command : Command) → IsOther command → (c : ℕ) → named_for command c ≡ None
-none_named (Sign award named) other c = absurd other
-none_named _ other c = refl
-
-none_decided : (command : Command) → IsOther command → (c : ℕ) → performance_decided command c ≡ security.Held
-none_decided (End contract how) other c = absurd other
-none_decided _ other c = refl
-
--- such a command signs no contract and ends none
-none_signed : (command : Command) → IsOther command → puts_contracts command ≡ false
-none_signed (Sign award named) other = absurd other
-none_signed (End contract how) other = absurd other
-none_signed _ other = refl
-
 -- the performance securities are unchanged, and each contract still has the one that its notice asks for
 module _ (x : Given) (xs : List Given) (ps : List Put) (kept : AreKept xs x.before) (same : (after_puts ps x.before).performances ≡ x.before.performances) (asked : HavePerformances (after_puts ps x.before)) where
   left_as : (c : ℕ) → performance_at c (after_puts ps x.before) ≡ performance_at c x.before
@@ -179,14 +153,10 @@ module _ (means : Means) (xs : List Given) (s : Tables) (moment : ℕ) (caller :
   have : HaveParents s s
   have = parents_there means xs s reached
 
-  tail_of : (command : Command) → first_of (command_tests (given command)) ≡ None
-      → HasTail s (max moment s.clock.moment) (lawful command).touches (published_for s command) (bond_for s command) (effect means.readings (given command))
-  tail_of command allowed = (lawful command).tail means.readings s moment caller have allowed
-
   -- the performance securities after an accepted command
   performances_after : (command : Command) → first_of (command_tests (given command)) ≡ None
       → (after_puts (effect means.readings (given command)) s).performances ≡ with_performance (bond_for s command) s.performances
-  performances_after command allowed = (tail_of command allowed).writes.performances s
+  performances_after command allowed = (tail_of means xs s moment caller reached command allowed).writes.performances s
 
   -- a signing
   module _ (award : ℕ) (named : Option NamedSecurity) (allowed : first_of (command_tests (given (Sign award named))) ≡ None) where
@@ -254,7 +224,7 @@ module _ (means : Means) (xs : List Given) (s : Tables) (moment : ℕ) (caller :
 
     contracts_after : (after_puts ps s).contracts ≡ put_contract s.contracts signed_row
     contracts_after =
-        let test : TableName → Bool = is_touched (Securities ∷ []) in
+        let test : TableName → Bool = is_touched (Performances ∷ Securities ∷ []) in
         let back : List SecurityRow = securities_of_award (award_at award s) s in
         (leaves test (securities_returned back ++ put_if (performance_put of.w) named) (after_puts (sign_parts s.clock (time_of x) of.w of.n of.l (envelope_of_award (award_at award s) s) []) s)
         (on-append test (securities_returned back) (put_if (performance_put of.w) named) (on-map test security_returned (filter is_held_security back) (λ _. refl)) (on-if test (performance_put of.w) named (λ _. refl)))).contracts refl
@@ -265,8 +235,8 @@ module _ (means : Means) (xs : List Given) (s : Tables) (moment : ℕ) (caller :
         ∙ ap (λ rows. find_performance rows c) (performances_after (Sign award named) allowed ∙ ap (λ o. with_performance (option_and_then (λ w. option_map (performance_row w) named) o) s.performances) of.is)
         ∙ rows_after named c
 
-    tail : HasTail s (max moment s.clock.moment) (lawful (Sign award named)).touches (published_for s (Sign award named)) (bond_for s (Sign award named)) ps
-    tail = subst (λ ps. HasTail s (max moment s.clock.moment) (lawful (Sign award named)).touches (published_for s (Sign award named)) (bond_for s (Sign award named)) ps) effect_is (tail_of (Sign award named) allowed)
+    tail : HasTail s (max moment s.clock.moment) (touches (Sign award named)) (published_for s (Sign award named)) (bond_for s (Sign award named)) ps
+    tail = subst (λ ps. HasTail s (max moment s.clock.moment) (touches (Sign award named)) (published_for s (Sign award named)) (bond_for s (Sign award named)) ps) effect_is (tail_of means xs s moment caller reached (Sign award named) allowed)
 
     row_named : (o : Option NamedSecurity) → is_some o ≡ true → (before : Option PerformanceRow) → IsSome (named_row of.w o before)
     row_named None there before = cc
@@ -345,8 +315,8 @@ module _ (means : Means) (xs : List Given) (s : Tables) (moment : ℕ) (caller :
         (sym (ap (λ b. cond b (ended_fate how) security.Held) one ∙ same_end how))
         (goes_on c (performance_named xs c) (fate_of_performance xs c) (ended_state how) (performance_at c s) (kept.fates c))
 
-    end_tail : HasTail s (max moment s.clock.moment) (lawful (End contract how)).touches (published_for s (End contract how)) (bond_for s (End contract how)) qs
-    end_tail = subst (λ ps. HasTail s (max moment s.clock.moment) (lawful (End contract how)).touches (published_for s (End contract how)) (bond_for s (End contract how)) ps) end_is (tail_of (End contract how) allowed)
+    end_tail : HasTail s (max moment s.clock.moment) (touches (End contract how)) (published_for s (End contract how)) (bond_for s (End contract how)) qs
+    end_tail = subst (λ ps. HasTail s (max moment s.clock.moment) (touches (End contract how)) (published_for s (End contract how)) (bond_for s (End contract how)) ps) end_is (tail_of means xs s moment caller reached (End contract how) allowed)
 
     abbrev ended_row : ContractRow
     ended_row = ended_contract (time_of y) how (entries_of_contract contract s) ends_of.c
@@ -379,19 +349,20 @@ module _ (means : Means) (xs : List Given) (s : Tables) (moment : ℕ) (caller :
             ∙ ap (λ rows. find_performance rows c) (performances_after (End contract how) allowed)
             ∙ settled_after (performance_at contract s) refl c
 
-  idle : (command : Command) → IsOther command → first_of (command_tests (given command)) ≡ None → AreKept (given command ∷ xs) (after_puts (effect means.readings (given command)) s)
-  idle command other allowed =
+  -- a command that puts no contract and no performance security
+  idle : (command : Command) → bond_for s command ≡ None → is_touched (touches command) Contracts ≡ false → ((c : ℕ) → named_for command c ≡ None) → ((c : ℕ) → performance_decided command c ≡ security.Held)
+      → first_of (command_tests (given command)) ≡ None → AreKept (given command ∷ xs) (after_puts (effect means.readings (given command)) s)
+  idle command none off unnamed undecided allowed =
       let ps : List Put = effect means.readings (given command) in
-      let tail = tail_of command allowed in
-      let same = (leaves (is_touched (lawful command).touches) ps s tail.touched).contracts ((lawful command).alone.0 ∙ none_signed command other) in
-      idle_kept (given command) xs ps kept (tail.writes.performances s ∙ ap (λ b. with_performance b s.performances) (none_put s command other))
-      (λ k c n is notice more. of_old ps tail have kept.asked k c c n (ap (λ rows. find_contract rows k) (sym same) ∙ is) refl notice more)
-      (none_named command other) (none_decided command other)
+      let tail = tail_of means xs s moment caller reached command allowed in
+      let same = (leaves (is_touched (touches command)) ps s tail.touched).contracts off in
+      idle_kept (given command) xs ps kept (tail.writes.performances s ∙ ap (λ b. with_performance b s.performances) none)
+      (λ k c n is notice more. of_old ps tail have kept.asked k c c n (ap (λ rows. find_contract rows k) (sym same) ∙ is) refl notice more) unnamed undecided
 
   one_kept : (command : Command) → first_of (command_tests (given command)) ≡ None → AreKept (given command ∷ xs) (after_puts (effect means.readings (given command)) s)
   one_kept (Sign award named) allowed = sign_kept award named allowed
   one_kept (End contract how) allowed = end_kept contract how allowed
-  one_kept command allowed = idle command tt allowed
+  one_kept command allowed = idle command refl refl (λ c. refl) (λ c. refl) allowed
 
 published_kept : (means : Means) (xs : List Given) (t : Tables) (p : Option ReleaseRow) → AreKept xs t → AreKept xs (after_puts (publication_puts p) t)
 published_kept means xs t None kept = kept

@@ -2,7 +2,6 @@
 use Rattle.std.specs.Prelude.{◌≡◌, ℕ, List, [], ◌∷◌, ◌++◌, map, Option, Some, None, option_map}
 use Rattle.std.proofs.Common.{refl, sym, ap, ◌∙◌, subst}
 use Rattle.std.specs.List.{AllByRecursion}
-use Rattle.office_base.specs.declared.records.LineRow.{LineRow}
 use Rattle.office_base.specs.declared.records.NoticeRow.{NoticeRow}
 use Rattle.office_base.specs.declared.records.EnvelopeRow.{EnvelopeRow}
 use Rattle.office_base.specs.declared.records.SealRow.{SealRow}
@@ -14,28 +13,19 @@ use Rattle.office_base.specs.declared.records.ReleaseRow.{ReleaseRow}
 use Rattle.office_base.specs.Parents.{notice_of_contract}
 use Rattle.office_base.specs.declared.records.EnvelopeState.TheVariants as envelope
 use Rattle.office_base.specs.declared.records.SecurityState.TheVariants as security
-use Rattle.office_base.specs.declared.puts.Put.TheVariants as puts
 use Rattle.office_machine.specs.Machine.{Given, publication_puts}
 use Rattle.office_machine.specs.Readings.{Readings}
 use Rattle.office_machine.specs.Fates.{received_by, received_at, tender_decided, fate_of_tender, security_decided, fate_of_security}
 use Rattle.office_base.proofs.RowLaws.Keyed.{found_key}
 use Rattle.office_machine.proofs.FateLaws.Views.{View, IsSound}
 use Rattle.office_machine.proofs.FateLaws.Matched.{EnvelopesMatch, SecuritiesMatch}
-use Rattle.office_machine.proofs.FateLaws.Seen.{seen, notice_state, IsQuiet, quiet, LotFits, lines-puts, order-puts}
-use Rattle.office_machine.proofs.FateLaws.FatesHold.{FatesStand, tenders_same, named_same}
+use Rattle.office_machine.proofs.FateLaws.Seen.{seen, notice_state, IsQuiet, quiet}
+use Rattle.office_machine.proofs.FateLaws.FatesHold.{FatesStand, HaveFates, tenders_same, named_same}
 use Rattle.office_machine.proofs.Rows.Keyed as keyed
-
-quiet_fits : (V : View) (n : ℕ) (lines : List LineRow) (p : Put) → IsQuiet V n p → LotFits lines p
-quiet_fits V n lines (puts.Lot r) h = absurd h
-quiet_fits V n lines _ h = tt
-
-all_fit : (V : View) (n : ℕ) (lines : List LineRow) (ps : List Put) → AllByRecursion (IsQuiet V n) ps → AllByRecursion (LotFits lines) ps
-all_fit V n lines [] h = tt
-all_fit V n lines (p ∷ ps) h = (quiet_fits V n lines p h.0, all_fit V n lines ps h.1)
 
 -- quiet changes keep the facts about fates
 pub kept_after : (readings : Readings) (xs : List Given) (ps : List Put) (t : Tables) → AllByRecursion (IsQuiet (seen t) t.clock.receipts) ps
-    → FatesStand readings xs t → FatesStand readings xs (after_puts ps t)
+    → HaveFates readings xs t → HaveFates readings xs (after_puts ps t)
 kept_after readings xs ps t still kept =
     let same = quiet ps t still in
     let u : Tables = after_puts ps t in
@@ -47,21 +37,17 @@ kept_after readings xs ps t still kept =
           (subst (λ (n : ℕ). EnvelopesMatch readings.digest (received_at xs) (fate_of_tender xs) (λ r. seal_at r t) n (λ r. envelope_at r t)) (sym same.receipts_are) kept.tenders));
       named =
           subst (λ (S : ℕ → Option SecurityRow). SecuritiesMatch (received_at xs) (fate_of_security xs) S) (sym (ap (λ (V : View). V.security_at) same.seen_is)) kept.named;
-      lines = lines-puts ps t kept.lines (all_fit (seen t) t.clock.receipts t.lines ps still);
-      order = order-puts ps t kept.order;
     }
 
 -- a command that takes in no tender and decides nothing keeps the facts about fates
 pub one_more : (readings : Readings) (xs : List Given) (x : Given) (t : Tables) → FatesStand readings xs t → received_by x.command x (λ q. received_at xs q) ≡ None
-    → ((r : ℕ) → tender_decided x.command x (received_at xs) r ≡ envelope.Sealed) → ((s : ℕ) → security_decided x.command x (received_at xs) s ≡ security.Held) → FatesStand readings (x ∷ xs) t
+    → ((r : ℕ) → tender_decided x.command x (received_at xs) r ≡ envelope.Sealed) → ((s : ℕ) → security_decided x.command x (received_at xs) s ≡ security.Held) → HaveFates readings (x ∷ xs) t
 one_more readings xs x t kept none undecided held = record {
   sound = kept.sound;
   tenders =
       tenders_same readings.digest xs x none t.clock.receipts (λ r. envelope_at r t) (λ r. envelope_at r t) (λ r. seal_at r t)
       (λ r. seal_at r t) kept.tenders undecided (λ r. refl) (λ r. refl);
   named = named_same readings.digest xs x none (λ s. security_at s t) (λ s. security_at s t) kept.named held (λ s. refl);
-  lines = kept.lines;
-  order = kept.order;
 }
 
 pub all_append : {X : Type 0} (P : X → Type 0) (xs ys : List X) → AllByRecursion P xs → AllByRecursion P ys → AllByRecursion P (xs ++ ys)
@@ -86,7 +72,7 @@ abbrev pub Stands : View → Option NoticeRow → Type 0
 Stands V o = (n : NoticeRow) → o ≡ Some n → V.notice_at n.notice ≡ Some n.state
 
 -- the put of a release keeps the facts about fates
-pub publication_keeps : (readings : Readings) (xs : List Given) (t : Tables) (p : Option ReleaseRow) → FatesStand readings xs t
-    → FatesStand readings xs (after_puts (publication_puts p) t)
+pub publication_keeps : (readings : Readings) (xs : List Given) (t : Tables) (p : Option ReleaseRow) → HaveFates readings xs t
+    → HaveFates readings xs (after_puts (publication_puts p) t)
 publication_keeps readings xs t None kept = kept
 publication_keeps readings xs t (Some p) kept = kept_after readings xs (publication_puts (Some p)) t (tt, tt) kept

@@ -1,5 +1,5 @@
 -- The part of the tables that the fates see, and changes that they don't see.
-use Rattle.std.specs.Prelude.{◌≡◌, ℕ, Bool, true, false, cond, ◌&&◌, ◌||◌, List, [], ◌∷◌, ◌++◌, map, filter, Option, Some, None, option_map, is_some}
+use Rattle.std.specs.Prelude.{◌≡◌, ℕ, Bool, true, false, cond, ◌&&◌, ◌||◌, List, [], ◌∷◌, ◌++◌, map, filter, Option, Some, None, option_map}
 use Rattle.std.proofs.Common.{refl, sym, ap, ◌∙◌, subst}
 use Rattle.std.specs.List.{AllByRecursion}
 use Rattle.std.specs.Cmp.{nat_cmp_total}
@@ -17,12 +17,11 @@ use Rattle.office_base.specs.declared.records.SecurityRow.{SecurityRow}
 use Rattle.office_base.specs.declared.records.AwardRow.{AwardRow}
 use Rattle.office_base.specs.declared.records.LotState.{LotState}
 use Rattle.office_base.specs.declared.records.NoticeState.{NoticeState}
-use Rattle.office_base.specs.Tables.{Tables, lot_cmp, line_key, notice_key, lot_key, envelope_key, seal_key, security_key, award_key, find_line, find_notice, put_notice, envelope_at, security_at, award_at, lot_at, notice_at, put_line, after_put, after_puts}
+use Rattle.office_base.specs.Tables.{Tables, lot_cmp, line_key, notice_key, lot_key, envelope_key, seal_key, security_key, award_key, find_notice, put_notice, envelope_at, security_at, award_at, lot_at, notice_at, after_put, after_puts}
 use Rattle.office_base.specs.declared.puts.Put.TheVariants as puts
 use Rattle.office_base.specs.declared.puts.Put.{Put}
-use Rattle.office_base.proofs.Orders.{lots_total}
 use Rattle.office_base.proofs.ExactKeys.{ids_exact, equal_keys}
-use Rattle.office_base.proofs.RowLaws.{row_at-row_put, in_order-put, still_there, all-put}
+use Rattle.office_base.proofs.RowLaws.{row_at-row_put}
 use Rattle.office_machine.proofs.Rows.RowsChanged.{rows_put, rows_drop, some_passes}
 use Rattle.office_base.proofs.RowLaws.Drops.{in_order-drop, row_at-row_drop}
 use Rattle.office_machine.proofs.FateLaws.Views.{View}
@@ -103,57 +102,6 @@ quiet_puts V n (p ∷ ps) t e f h =
 
 pub quiet : (ps : List Put) (t : Tables) → AllByRecursion (IsQuiet (seen t) t.clock.receipts) ps → Same t (after_puts ps t)
 quiet ps t h = quiet_puts (seen t) t.clock.receipts ps t refl refl h
-
--- the tables that the fates read are in order
-abbrev pub AreInOrder : Tables → Type 0
-AreInOrder t =
-    IsInOrder nat_cmp envelope_key t.envelopes × IsInOrder nat_cmp seal_key t.seals × IsInOrder nat_cmp security_key t.securities × IsInOrder nat_cmp award_key t.awards × IsInOrder lot_cmp lot_key t.lots
-
-order-put : (p : Put) (t : Tables) → AreInOrder t → AreInOrder (after_put p t)
-order-put (puts.Envelope r) t h = (in_order-put nat_cmp_total envelope_key t.envelopes r h.0, h.1, h.2, h.3, h.4)
-order-put (puts.Seal r) t h = (h.0, in_order-put nat_cmp_total seal_key t.seals r h.1, h.2, h.3, h.4)
-order-put (puts.DropSeal n) t h = (h.0, in_order-drop nat_cmp_total seal_key t.seals n h.1, h.2, h.3, h.4)
-order-put (puts.Security r) t h = (h.0, h.1, in_order-put nat_cmp_total security_key t.securities r h.2, h.3, h.4)
-order-put (puts.Award r) t h = (h.0, h.1, h.2, in_order-put nat_cmp_total award_key t.awards r h.3, h.4)
-order-put (puts.Lot r) t h = (h.0, h.1, h.2, h.3, in_order-put lots_total lot_key t.lots r h.4)
-order-put _ t h = h
-
-pub order-puts : (ps : List Put) (t : Tables) → AreInOrder t → AreInOrder (after_puts ps t)
-order-puts [] t h = h
-order-puts (p ∷ ps) t h = order-puts ps (after_put p t) (order-put p t h)
-
--- the line of the lot exists
-abbrev pub IsOnLine : List LineRow → LotRow → Type 0
-IsOnLine lines l = is_some (find_line lines l.line) ≡ true
-
-abbrev pub OnLines : List LineRow → List LotRow → Type 0
-OnLines lines lots = AllByRecursion (IsOnLine lines) lots
-
-abbrev pub LotFits : List LineRow → Put → Type 0
-LotFits lines (puts.Lot r) = IsOnLine lines r
-LotFits lines _ = Unit {0}
-
-all_map : {X : Type 0} (P Q : X → Type 0) → ((x : X) → P x → Q x) → (xs : List X) → AllByRecursion P xs → AllByRecursion Q xs
-all_map P Q f [] h = tt
-all_map P Q f (x ∷ xs) h = (f x h.0, all_map P Q f xs h.1)
-
-fits_still : (lines : List LineRow) (r : LineRow) (p : Put) → LotFits lines p → LotFits (put_line lines r) p
-fits_still lines r (puts.Lot l) h = still_there nat_list_cmp_total line_key lines r l.line h
-fits_still lines r _ h = tt
-
-lines-put : (p : Put) (ps : List Put) (t : Tables) → OnLines t.lines t.lots → LotFits t.lines p → AllByRecursion (LotFits t.lines) ps
-    → OnLines (after_put p t).lines (after_put p t).lots × AllByRecursion (LotFits (after_put p t).lines) ps
-lines-put (puts.Line r) ps t h fits rest = (
-  all_map (IsOnLine t.lines) (IsOnLine (put_line t.lines r)) (λ l. still_there nat_list_cmp_total line_key t.lines r l.line) t.lots h,
-  all_map (LotFits t.lines) (LotFits (put_line t.lines r)) (λ p. fits_still t.lines r p) ps rest,
-)
-lines-put (puts.Lot r) ps t h fits rest = (all-put lots_total lot_key (IsOnLine t.lines) t.lots r fits h, rest)
-lines-put _ ps t h fits rest = (h, rest)
-
-pub lines-puts : (ps : List Put) (t : Tables) → OnLines t.lines t.lots → AllByRecursion (LotFits t.lines) ps
-    → OnLines (after_puts ps t).lines (after_puts ps t).lots
-lines-puts [] t h fits = h
-lines-puts (p ∷ ps) t h fits = let both = lines-put p ps t h fits.0 fits.1 in lines-puts ps (after_put p t) both.0 both.1
 
 -- puts one after another, in two parts
 pub after-append : (ps qs : List Put) (t : Tables) → after_puts (ps ++ qs) t ≡ after_puts qs (after_puts ps t)

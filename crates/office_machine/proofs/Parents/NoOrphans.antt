@@ -1,23 +1,28 @@
 -- In a reached office, each row has its parent, and no row has the next number.
-use Rattle.std.specs.Prelude.{◌≡◌, ℕ, ◌+◌, Bool, true, false, cond, not, ◌&&◌, ◌||◌, List, [], ◌∷◌, filter, Option, Some, None, IsSome, is_some}
+use Rattle.std.specs.Prelude.{◌≡◌, ℕ, ◌+◌, Bool, true, false, cond, not, ◌&&◌, ◌||◌, List, [], ◌∷◌, filter, nat_eq, Option, Some, None, IsSome, is_some}
 use Rattle.std.proofs.Common.{refl, sym, ◌∙◌, ap, arith}
+use Rattle.std.proofs.lemmas.Bool.Decides.{nat_tests}
+use Rattle.std.specs.FinMap.{nat_cmp-IsAntisymmetric}
 use Rattle.std.specs.List.{AllByRecursion, list_any}
 use Rattle.std.specs.declared.cmp.Ordering.{Ordering}
 use Rattle.office_values.specs.Ids.{same_id}
 use Rattle.office_commands.specs.declared.budget.BudgetRow.{BudgetRow}
 use Rattle.office_base.specs.Rows.{row_at, IsInOrder, holds_of}
-use Rattle.office_base.specs.Parents.{envelope_of_award}
+use Rattle.office_base.specs.Parents.{envelope_of_award, lot_of_award}
 use Rattle.office_base.specs.States.{is_read, is_sealed}
-use Rattle.office_base.specs.Tables.{IsSorted, Tables, award_at, contract_at, envelope_at, line_at, lot_at, notice_at, seal_at, of_line, of_notice, envelopes_of_notice, lots_of_line, lots_of_notice, releases_of_notice}
+use Rattle.office_base.specs.Tables.{IsSorted, Tables, award_at, contract_at, envelope_at, line_at, lot_at, notice_at, late_at, compiled_at, performance_at, same_number, seal_at, of_line, of_notice, awards_of_notice, contracts_of_notice, entries_of_contract, envelopes_of_notice, lots_of_line, lots_of_notice, releases_of_notice, securities_of_notice}
 use Rattle.office_base.specs.declared.records.AwardRow.{AwardRow}
 use Rattle.office_base.specs.declared.records.ContractRow.{ContractRow}
 use Rattle.office_base.specs.declared.records.EnvelopeRow.{EnvelopeRow}
 use Rattle.office_base.specs.declared.records.EnvelopeState.TheVariants as states
 use Rattle.office_base.specs.declared.records.EnvelopeState.{EnvelopeState}
+use Rattle.office_base.specs.declared.records.EntryRow.{EntryRow}
 use Rattle.office_base.specs.declared.records.LineRow.{LineRow}
+use Rattle.office_base.specs.declared.records.LotRow.{LotRow}
+use Rattle.office_base.specs.declared.records.SecurityRow.{SecurityRow}
 use Rattle.office_base.specs.declared.records.NoticeRow.{NoticeRow}
 use Rattle.office_base.specs.declared.records.ReleaseRow.{ReleaseRow}
-use Rattle.office_base.proofs.ExactKeys.{equal_ids}
+use Rattle.office_base.proofs.ExactKeys.{equal_ids, equal_keys}
 use Rattle.office_base.proofs.RowLaws.Keyed.{IsKeyed, found_key}
 use Rattle.tender_core.specs.Rules.Modify.{isnt_sealed}
 use Rattle.tender_core.specs.Rules.Open.{is_sealed_envelope}
@@ -26,12 +31,13 @@ use Rattle.award_core.specs.Rules.Fail.{isnt_active}
 use Rattle.office_machine.specs.Commands.Open.{lacks_tender}
 use Rattle.office_machine.specs.Fates.{is_kept}
 use Rattle.office_machine.specs.Machine.{Given}
-use Rattle.office_machine.specs.Orphans.{award_is_taken, contract_is_taken, has_rows, has_rows_of_notice, is_torn, lacks_its_security, lacks_seal, names_lost_line, receipt_is_taken}
+use Rattle.office_machine.specs.Orphans.{award_is_taken, contract_is_taken, has_rows_of_notice, is_torn, lacks_its_security, lacks_seal, names_lost_line, receipt_is_taken, reserves_another}
+use Rattle.office_machine.specs.References.{OfContract, has_rows, is_named}
 use Rattle.office_machine.specs.Parents.{HaveParents}
 use Rattle.office_machine.specs.Rule.{has_seal_and_lot}
-use Rattle.office_machine.proofs.Accounts.Kept.{AccountsStand}
 use Rattle.office_machine.proofs.Parents.ParentsPut.{all-filter, all-table}
 use Rattle.office_machine.proofs.Parents.Whole.{IsWhole, security_there}
+use Rattle.office_machine.proofs.Passed.{neither, not_false}
 use Rattle.office_machine.proofs.Rows.Keyed as keyed
 
 -- If no element passes, none is left.
@@ -51,6 +57,18 @@ apart find a b there none = by (same_id a b) refl
     by false is = is
     by true is = absurd (let no : true ≡ false = sym there ∙ ap (λ k. is_some (find k)) (equal_ids a b is) ∙ ap is_some none in cc)
 
+apart_numbers : {X : Type 0} (find : ℕ → Option X) (a b : ℕ) → IsSome (find a) → is_some (find b) ≡ false → same_number a b ≡ false
+apart_numbers find a b there none = by (same_number a b) refl
+  where
+    by : (c : Bool) → same_number a b ≡ c → same_number a b ≡ false
+    by false is = is
+    by true is = absurd (let no : true ≡ false = sym there ∙ ap (λ k. is_some (find k)) (equal_keys nat_cmp-IsAntisymmetric a b is) ∙ none in cc)
+
+-- A row that would have its parent isn't there, because the parent isn't.
+none_there : {X : Type 0} (o : Option X) {parent : Bool} → ((x : X) → o ≡ Some x → parent ≡ true) → parent ≡ false → is_some o ≡ false
+none_there None has none = refl
+none_there (Some x) has none = absurd (let no : true ≡ false = sym (has x refl) ∙ none in cc)
+
 module _ (s : Tables) (have : HaveParents s s) (order : IsSorted s) where
   pub no_rows_of_notice : (notice : List ℕ) → notice_at notice s ≡ None → has_rows_of_notice notice s ≡ false
   no_rows_of_notice notice none =
@@ -61,7 +79,26 @@ module _ (s : Tables) (have : HaveParents s s) (order : IsSorted s) where
       none_found keyed.envelopes (λ (e : EnvelopeRow). same_id e.notice notice) s.envelopes order.envelopes (λ k e is. apart at e.notice notice (have.envelopes k e is).notice none) in
       let releases : has_rows (releases_of_notice notice s) ≡ false =
       none_found keyed.releases (λ (r : ReleaseRow). same_id r.notice notice) s.releases order.releases (λ k r is. apart at r.notice notice (have.releases k r is).notice none) in
-      λ i. lots i || tenders i || releases i
+      let securities : has_rows (securities_of_notice notice s) ≡ false =
+      none_found keyed.securities (λ (r : SecurityRow). same_id r.notice notice) s.securities order.securities (λ k r is. apart at r.notice notice (have.securities k r is).notice none) in
+      let awards : has_rows (awards_of_notice notice s) ≡ false =
+      none_found keyed.awards (λ (r : AwardRow). same_id r.notice notice) s.awards order.awards (λ k r is. apart at r.notice notice (have.awards k r is).notice none) in
+      let contracts : has_rows (contracts_of_notice notice s) ≡ false =
+      none_found keyed.contracts (λ (r : ContractRow). same_id r.notice notice) s.contracts order.contracts (λ k r is. apart at r.notice notice (have.contracts k r is).notice none) in
+      let late : is_some (late_at notice s) ≡ false =
+      none_there (late_at notice s) (λ r is. ap (λ k. is_some (notice_at k s)) (sym (found_key keyed.late_rules s.late_rules notice r is)) ∙ (have.late_rules notice r is).notice) (ap is_some none) in
+      let merge : is_some (compiled_at notice s) ≡ false =
+      none_there (compiled_at notice s) (λ r is. ap (λ k. is_some (notice_at k s)) (sym (found_key keyed.compiled s.compiled notice r is)) ∙ (have.merges notice r is).notice) (ap is_some none) in
+      λ i. lots i || tenders i || releases i || securities i || awards i || contracts i || late i || merge i
+
+  -- Nothing is there of a contract that is missing.
+  pub no_rows_of_contract : (contract : ℕ) → is_some (contract_at contract s) ≡ false → is_named (OfContract contract) s ≡ false
+  no_rows_of_contract contract none =
+      let entries : has_rows (entries_of_contract contract s) ≡ false =
+      none_found keyed.entries (λ (e : EntryRow). same_number e.contract contract) s.entries order.entries (λ k e is. apart_numbers (λ k. contract_at k s) e.contract contract (have.entries k e is).contract none) in
+      let performance : is_some (performance_at contract s) ≡ false =
+      none_there (performance_at contract s) (λ r is. ap (λ k. is_some (contract_at k s)) (sym (found_key keyed.performances s.performances contract r is)) ∙ (have.performances contract r is).contract) none in
+      λ i. entries i || performance i
 
   no_lots_of : (line : List ℕ) (o : Option LineRow) → line_at line s ≡ o → (not (is_some o) && has_rows (lots_of_line line s)) ≡ false
   no_lots_of line (Some l) is = refl
@@ -72,30 +109,49 @@ module _ (s : Tables) (have : HaveParents s s) (order : IsSorted s) where
   no_lost_lines (row ∷ rows) = λ i. no_lots_of row.line (line_at row.line s) refl i || no_lost_lines rows i
 
 -- No number is taken.
-never : {X : Type 0} (b : Bool) (o : Option X) → o ≡ None → (b && is_some o) ≡ false
-never true o none = ap is_some none
-never false o none = refl
+equal_numbers : (n : ℕ) → nat_eq n n ≡ true
+equal_numbers n = grind (arith, nat_tests)
 
-module _ (xs : List Given) (s : Tables) (kept : AccountsStand xs s) where
-  no_award : (o : Option AwardRow) → award_at (s.clock.awards + 1) s ≡ o → o ≡ None
+never : (a b : Bool) → b ≡ false → (a && b) ≡ false
+never true b none = none
+never false b none = refl
+
+module _ (xs : List Given) (s : Tables) (whole : IsWhole xs s) where
+  no_award : (o : Option AwardRow) → award_at (s.clock.awards + 1) s ≡ o → is_some o ≡ false
   no_award None is = refl
-  no_award (Some a) is = absurd (let drawn = (kept.awards (s.clock.awards + 1) a is).drawn in omega (arith, drawn))
+  no_award (Some a) is = absurd (let drawn = (whole.accounts.awards (s.clock.awards + 1) a is).drawn in omega (arith, drawn))
 
   pub award_is_new : (notice lot : List ℕ) → award_is_taken notice lot s ≡ false
-  award_is_new notice lot = never _ (award_at (s.clock.awards + 1) s) (no_award (award_at (s.clock.awards + 1) s) refl)
+  award_is_new notice lot =
+      let n = s.clock.awards + 1 in
+      let none : is_some (award_at n s) ≡ false = no_award (award_at n s) refl in
+      let contract : is_some (contract_at n s) ≡ false = none_there (contract_at n s) (λ c is. ap is_some (whole.accounts.contracts n c is).of_award.1) none in
+      let rows : is_named (OfContract n) s ≡ false = no_rows_of_contract s whole.parents whole.order n contract in
+      let each = neither (has_rows (entries_of_contract n s)) (is_some (performance_at n s)) rows in
+      never _ _ (λ i. none i || (contract i || each.0 i || each.1 i))
 
   -- The award of a contract isn't active.
   no_contract : (award : ℕ) → holds_of isnt_active (award_at award s) ≡ false → (o : Option ContractRow) → contract_at award s ≡ o → is_some o ≡ false
   no_contract award active None is = refl
   no_contract award active (Some c) is =
-      let of = (kept.contracts award c is).of_award in
+      let of = (whole.accounts.contracts award c is).of_award in
       let no : true ≡ false = ap not (sym of.2) ∙ sym (ap (holds_of isnt_active) of.1) ∙ active in cc
 
   pub contract_is_new : (award : ℕ) → holds_of isnt_active (award_at award s) ≡ false → contract_is_taken award s ≡ false
-  contract_is_new award active = no_contract award active (contract_at award s) refl
+  contract_is_new award active =
+      let none : is_some (contract_at award s) ≡ false = no_contract award active (contract_at award s) refl in
+      λ i. none i || no_rows_of_contract s whole.parents whole.order award none i
+
+  -- The lot of an active award reserves its price.
+  pub price_is_reserved : (award : ℕ) (o : Option AwardRow) → award_at award s ≡ o → holds_of isnt_active o ≡ false → holds_of (reserves_another (lot_of_award o s)) o ≡ false
+  price_is_reserved award None is active = refl
+  price_is_reserved award (Some a) is active =
+      let of = (whole.accounts.awards award a is).of_lot in
+      ap (holds_of (λ (l : LotRow). not (nat_eq l.reserved a.price))) of.1
+      ∙ ap (λ n. not (nat_eq n a.price)) (of.2 (not_false _ active)).1 ∙ ap not (equal_numbers a.price)
 
 pub receipt_is_new : (xs : List Given) (s : Tables) → IsWhole xs s → receipt_is_taken s ≡ false
-receipt_is_new xs s whole = ap is_some whole.unused
+receipt_is_new xs s whole = λ i. is_some (whole.unused i) || (is_some (whole.no_seal i) || is_some (whole.no_security i))
 
 -- A tender that is sealed, or one that a withdrawal takes back, has its seal.
 sealed_kept : (st : EnvelopeState) → is_sealed st ≡ true → is_kept st ≡ true

@@ -1,5 +1,5 @@
 -- In a reached office, the rows that its rows refer to exist, and no more went from a contract than came.
-use Rattle.std.specs.Prelude.{◌≡◌, ℕ, ◌+◌, ◌≤◌, ◌<◌, Bool, true, false, not, ◌&&◌, List, filter, Option, Some, None, IsSome, is_some, nat_lt, option_and_then}
+use Rattle.std.specs.Prelude.{◌≡◌, ℕ, ◌+◌, ◌≤◌, ◌<◌, true, false, not, ◌&&◌, List, filter, Option, Some, None, IsSome, is_some, nat_lt, option_and_then}
 use Rattle.std.proofs.Common.{refl, ap, subst, arith}
 use Rattle.std.proofs.lemmas.Bool.Decides.{nat_tests}
 use Rattle.office_base.specs.EntryKinds.{is_raise, is_less}
@@ -24,8 +24,10 @@ pub record IsWhole (xs : List Given) (s : Tables) : Type 0 where
   pub performances : HavePerformances s
   pub accounts : AccountsStand xs s
   pub order : IsSorted s
-  -- No tender has the next receipt, and each that is sealed or opened has its seal.
+  -- No tender, no seal and no security has the next receipt, and each tender that is sealed or opened has its seal.
   pub unused : envelope_at (s.clock.receipts + 1) s ≡ None
+  pub no_seal : seal_at (s.clock.receipts + 1) s ≡ None
+  pub no_security : security_at (s.clock.receipts + 1) s ≡ None
   pub seals : (n : ℕ) (e : EnvelopeRow) → envelope_at n s ≡ Some e → is_kept e.state ≡ true → IsSome (seal_at n s)
 
 pub not_less : (a b : ℕ) → b ≤ a → nat_lt a b ≡ false

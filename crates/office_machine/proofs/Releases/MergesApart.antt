@@ -42,11 +42,11 @@ puts_beside (p ∷ ps) merges s =
 
 -- Commands.
 
--- a rule, with these merges beside the office before it and those beside the office after it
+-- a rule, with these merges beside the office before it and those beside the office after it; `lacks` looks for a merge that is left over, and no step reads it
 abbrev pub past_merges : List CompiledRow → List CompiledRow → Rule → Rule
 past_merges before after rule = record {
   tests = λ s. rule.tests (with_merges before s);
-  lacks = λ s. rule.lacks (with_merges before s);
+  lacks = rule.lacks;
   puts = λ readings s. rule.puts readings (with_merges before s);
   publishes = rule.publishes;
   reply = λ readings s u. rule.reply readings (with_merges before s) (with_merges after u);

@@ -9,7 +9,7 @@ use Rattle.office_machine.specs.Parents.{HaveParents}
 use Rattle.office_machine.specs.Publications.{published_for}
 use Rattle.office_machine.proofs.Accounts.Aside.{after-append}
 use Rattle.office_machine.proofs.Commands.{lawful}
-use Rattle.office_machine.proofs.Commands.Footprint.{leaves}
+use Rattle.office_machine.proofs.Commands.Footprint.{leaves, touches}
 use Rattle.office_machine.proofs.Passed.{allowed_by}
 use Rattle.office_machine.proofs.Commands.Tail.{CountsNext, is_touched, with_notice}
 
@@ -53,6 +53,6 @@ next_is means x have allowed =
       counts = h.counts;
       notices = ap (λ (u : Tables). u.notices) apart ∙ beside.notices ∙ h.writes.notices x.before;
       clock_is = ap (λ (u : Tables). u.clock) apart ∙ beside.clock ∙ h.writes.clock_is x.before;
-      releases = ap (λ (u : Tables). u.releases) apart ∙ beside.releases ∙ ap (with_release (publication means x)) ((leaves (is_touched (lawful x.command).touches) (effect means.readings x) x.before h.touched).releases refl);
-      compiled = ap (λ (u : Tables). u.compiled) apart ∙ beside.compiled ∙ (leaves (is_touched (lawful x.command).touches) (effect means.readings x) x.before h.touched).compiled refl;
+      releases = ap (λ (u : Tables). u.releases) apart ∙ beside.releases ∙ ap (with_release (publication means x)) ((leaves (is_touched (touches x.command)) (effect means.readings x) x.before h.touched).releases refl);
+      compiled = ap (λ (u : Tables). u.compiled) apart ∙ beside.compiled ∙ (leaves (is_touched (touches x.command)) (effect means.readings x) x.before h.touched).compiled refl;
     }

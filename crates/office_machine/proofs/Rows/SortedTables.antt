@@ -1,7 +1,6 @@
 -- The tables of a reached office are in the order of their keys.
 use Rattle.std.proofs.Common.{List}
 use Rattle.office_base.specs.Tables.{Tables, IsSorted}
-use Rattle.office_base.specs.declared.puts.Put.TheVariants as puts
 use Rattle.office_machine.specs.Machine.{Means, Given, Reaches, puts_of}
 use Rattle.office_machine.proofs.Runs.{along}
 use Rattle.office_base.proofs.SortedTables.{sorted-puts}

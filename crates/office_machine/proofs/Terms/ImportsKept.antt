@@ -20,7 +20,7 @@ use Rattle.office_base.specs.Parents.{line_of_lot, lot_of_contract, notice_of_co
 use Rattle.office_base.specs.Rows.{row_at}
 use Rattle.office_base.specs.Rules.{first_of}
 use Rattle.office_base.specs.Standings.{standings}
-use Rattle.office_base.specs.Tables.{IsSorted, Tables, after_put, after_puts, awards_of_notice, batch_at, batch_key, contract_at, envelopes_of_lot, envelopes_of_notice, find_batch, find_line, line_at, line_key, lot_at, lots_of_notice, no_tables, notice_at, put_line, securities_of_lot, securities_of_notice}
+use Rattle.office_base.specs.Tables.{IsSorted, Tables, after_put, after_puts, awards_of_notice, batch_at, batch_key, contract_at, envelopes_of_lot, envelopes_of_notice, find_line, line_at, line_key, lot_at, lots_of_notice, no_tables, notice_at, put_line, securities_of_lot, securities_of_notice}
 use Rattle.office_base.specs.Transitions.{is_held_security, performance_settled, securities_returned, security_returned}
 use Rattle.office_base.specs.declared.puts.Put.{Put}
 use Rattle.office_base.specs.declared.puts.Put.TheVariants as puts
@@ -38,19 +38,15 @@ use Rattle.office_base.proofs.ExactKeys.{equal_keys, ids_exact, same_id_is}
 use Rattle.office_base.proofs.RowLaws.{row_at-row_put}
 use Rattle.office_base.proofs.RowLaws.Keyed.{found_key}
 use Rattle.tender_core.specs.Rules.Cancel.{award_put, cancel_puts, cancel_rows, cancelled_lot_put, drop_put, envelope_put, freed_line_put, is_ended_award, is_ended_envelope, is_ended_security, is_open_lot}
-use Rattle.tender_core.specs.Rules.Import.{after_rows, imported_line, import_puts, import_rows}
-use Rattle.tender_core.specs.Rules.Publish.{is_on_no_line, late_puts, line_found, new_lot_put, no_line, publish_parts, publish_puts, publish_rows, publish_tests, reserving_line_put}
-use Rattle.tender_core.specs.Rules.Register.{register_puts, register_rows}
+use Rattle.tender_core.specs.Rules.Import.{after_rows, imported_line}
+use Rattle.tender_core.specs.Rules.Publish.{is_on_no_line, late_puts, new_lot_put, no_line, publish_parts, publish_puts, publish_rows, publish_tests, reserving_line_put}
 use Rattle.award_core.specs.Rules.AmendContract.{amend_contract_puts, amend_contract_rows, line_after}
 use Rattle.award_core.specs.Rules.Award.{award_puts, award_rows, decision_puts, winner}
 use Rattle.award_core.specs.Rules.End.{end_puts, end_rows, ended_state}
 use Rattle.office_machine.specs.Imports.{HasImports, ImportsAreKept, batch_after, line_title, title_after, title_in}
 use Rattle.office_machine.specs.Machine.{Given, Means, Reaches, command_tests, effect, publication, publication_puts, time_of}
 use Rattle.office_machine.proofs.Accounts.Aside.{after-append}
-use Rattle.office_machine.proofs.Commands.{lawful}
-use Rattle.office_machine.proofs.Commands.Footprint.{TableName, Lines, Others, AreOn, IsOn, is_in}
-use Rattle.office_machine.proofs.Commands.Lawful.{puts_lines, puts_names}
-use Rattle.office_machine.proofs.Commands.Tail.{is_touched}
+use Rattle.office_machine.proofs.Commands.Footprint.{Lines, Batches, Reads}
 use Rattle.office_machine.proofs.FateLaws.QuietFates.{all_append, all_of_map}
 use Rattle.office_machine.proofs.Parents.ParentsPut.{all-filter, all-table}
 use Rattle.office_machine.proofs.Parents.ParentsThere.{parents_there}
@@ -60,6 +56,7 @@ use Rattle.office_machine.proofs.Rows.SortedTables.{sorted}
 use Rattle.office_machine.proofs.Runs.{along}
 use Rattle.office_machine.proofs.Terms.Said.{all_if}
 use Rattle.office_machine.proofs.Terms.TermsKept.{all_made}
+use Rattle.office_machine.proofs.Untouched.{untouched}
 use Rattle.office_machine.proofs.Rows.Keyed as keyed
 
 -- the title of a line, if it exists
@@ -71,6 +68,11 @@ abbrev KeepsImports : Tables → Put → Type 0
 KeepsImports s (puts.Line r) = title_at r.line s ≡ Some r.title
 KeepsImports s (puts.Batch r) = ⊥
 KeepsImports s _ = Unit {0}
+
+reads_imports : (s : Tables) → Reads (Lines ∷ Batches ∷ []) (KeepsImports s)
+reads_imports s (puts.Line r) other = absurd (let no : true ≡ false = other in cc)
+reads_imports s (puts.Batch r) other = absurd (let no : true ≡ false = other in cc)
+reads_imports s _ other = tt
 
 -- the same budget files and titles
 record SameImports (s u : Tables) : Type 0 where
@@ -91,20 +93,6 @@ put_same s _ u keeps same = record { batches = λ q. same.batches q; titles = λ
 puts_same : (s : Tables) (ps : List Put) (u : Tables) → AllByRecursion (KeepsImports s) ps → SameImports s u → SameImports s (after_puts ps u)
 puts_same s [] u keep same = same
 puts_same s (p ∷ ps) u keep same = puts_same s ps (after_put p u) keep.1 (put_same s p u keep.0 same)
-
--- puts of other tables
-clash : {A : Type 0} {b : Bool} → b ≡ true → b ≡ false → A
-clash is isnt = absurd (let both : true ≡ false = sym is ∙ isnt in cc)
-
-module _ (names : List TableName) (lines : is_in names Lines ≡ false) (others : is_in names Others ≡ false) (s : Tables) where
-  one_aside : (p : Put) → IsOn (is_touched names) p → KeepsImports s p
-  one_aside (puts.Line r) on = clash on lines
-  one_aside (puts.Batch r) on = clash on others
-  one_aside _ on = tt
-
-  aside : (ps : List Put) → AreOn (is_touched names) ps → AllByRecursion (KeepsImports s) ps
-  aside [] on = tt
-  aside (p ∷ ps) on = (one_aside p on.0, aside ps on.1)
 
 -- the title of a line that exists
 title_found : (o : Option LineRow) (empty : LineRow) → is_some o ≡ true → option_map line_title o ≡ Some (unwrap_or o empty).title
@@ -142,12 +130,6 @@ module _ (means : Means) (xs : List Given) (s : Tables) (moment : ℕ) (caller :
   kept x ps batches titles keep =
       let same = puts_same s ps s keep (record { batches = λ q. refl; titles = λ q. refl }) in
       record { batches = λ q. same.batches q ∙ has.batches q ∙ sym (batches q); titles = λ q. same.titles q ∙ has.titles q ∙ sym (titles q) }
-
-  quiet_kept : (command : Command) → puts_lines command ≡ false → puts_names command ≡ false → first_of (command_tests (given command)) ≡ None → AreKept (effect means.readings (given command))
-  quiet_kept command lines names allowed =
-      let own = lawful command in
-      aside own.touches (own.beside.0 ∙ lines) (own.beside.1 ∙ names) s (effect means.readings (given command))
-      (own.tail means.readings s moment caller (parents_there means xs s reached) allowed).touched
 
   -- an import
   import_has : (batch : List ℕ) (rows : List BudgetRow) → HasImports (given (commands.Import batch rows) ∷ xs) (after_puts (effect means.readings (given (commands.Import batch rows))) s)
@@ -252,14 +234,8 @@ module _ (means : Means) (xs : List Given) (s : Tables) (moment : ℕ) (caller :
       let security = (end_rows s contract).performance in
       (tt, (line_kept (lot_of_contract (Some c) s) r is, (tt, (tt, all_if (KeepsImports s) (performance_settled (ended_state how)) security (λ _. tt)))))
 
-  register_kept : (t : ℕ) (tenderer name address key : List ℕ) → AreKept (register_puts (register_rows s tenderer) t tenderer name address key)
-  register_kept t tenderer name address key = (tt, (tt, tt))
-
   one_has : (command : Command) → first_of (command_tests (given command)) ≡ None → HasImports (given command ∷ xs) (after_puts (effect means.readings (given command)) s)
   one_has (commands.Import batch rows) allowed = import_has batch rows
-  one_has (commands.Register tenderer name address key) allowed =
-      let x = given (commands.Register tenderer name address key) in
-      kept x (register_puts (register_rows s tenderer) (time_of x) tenderer name address key) (λ q. refl) (λ q. refl) (register_kept (time_of x) tenderer name address key)
   one_has (commands.Publish notice new) allowed =
       let x = given (commands.Publish notice new) in
       kept x _ (λ q. refl) (λ q. refl) (publish_kept (time_of x) notice new (none_holds (publish_tests (publish_rows s notice) (time_of x) new) allowed).0)
@@ -276,19 +252,8 @@ module _ (means : Means) (xs : List Given) (s : Tables) (moment : ℕ) (caller :
       let x = given (commands.End contract how) in
       let o : Option ContractRow = contract_at contract s in
       kept x _ (λ q. refl) (λ q. refl) (end_kept (time_of x) contract how o (notice_of_contract o s) (line_of_lot (lot_of_contract o s) s) refl)
-  one_has (commands.AmendNotice notice deadline rationale) allowed =
-      let command = commands.AmendNotice notice deadline rationale in kept (given command) (effect means.readings (given command)) (λ q. refl) (λ q. refl) (quiet_kept command refl refl allowed)
-  one_has (commands.Open notice) allowed = let command = commands.Open notice in kept (given command) (effect means.readings (given command)) (λ q. refl) (λ q. refl) (quiet_kept command refl refl allowed)
-  one_has (commands.Present notice lot security bytes) allowed =
-      let command = commands.Present notice lot security bytes in kept (given command) (effect means.readings (given command)) (λ q. refl) (λ q. refl) (quiet_kept command refl refl allowed)
-  one_has (commands.Modify receipt bytes) allowed = let command = commands.Modify receipt bytes in kept (given command) (effect means.readings (given command)) (λ q. refl) (λ q. refl) (quiet_kept command refl refl allowed)
-  one_has (commands.Withdraw receipt) allowed = let command = commands.Withdraw receipt in kept (given command) (effect means.readings (given command)) (λ q. refl) (λ q. refl) (quiet_kept command refl refl allowed)
-  one_has (commands.Examine receipt responsive quality) allowed =
-      let command = commands.Examine receipt responsive quality in kept (given command) (effect means.readings (given command)) (λ q. refl) (λ q. refl) (quiet_kept command refl refl allowed)
-  one_has (commands.Fail award) allowed = let command = commands.Fail award in kept (given command) (effect means.readings (given command)) (λ q. refl) (λ q. refl) (quiet_kept command refl refl allowed)
-  one_has (commands.Sign award named) allowed = let command = commands.Sign award named in kept (given command) (effect means.readings (given command)) (λ q. refl) (λ q. refl) (quiet_kept command refl refl allowed)
-  one_has (commands.Pay contract entry amount) allowed =
-      let command = commands.Pay contract entry amount in kept (given command) (effect means.readings (given command)) (λ q. refl) (λ q. refl) (quiet_kept command refl refl allowed)
+  one_has command allowed =
+      kept (given command) (effect means.readings (given command)) (λ q. refl) (λ q. refl) (untouched means xs s moment caller reached (KeepsImports s) (Lines ∷ Batches ∷ []) (reads_imports s) command refl allowed)
 
 -- a release changes none of them
 published_has : (xs : List Given) (t : Tables) (p : Option ReleaseRow) → HasImports xs t → HasImports xs (after_puts (publication_puts p) t)

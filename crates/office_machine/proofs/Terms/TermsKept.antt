@@ -8,7 +8,6 @@ use Rattle.std.specs.Ordering.{eq_by_cmp}
 use Rattle.office_commands.specs.Commands.{IsCommand}
 use Rattle.office_commands.specs.Identified.{repeats_id}
 use Rattle.office_commands.specs.Lots.{lot_id}
-use Rattle.office_commands.specs.declared.budget.BudgetRow.{BudgetRow}
 use Rattle.office_commands.specs.declared.command.Caller.{Caller}
 use Rattle.office_commands.specs.declared.commands.Command.{Command}
 use Rattle.office_commands.specs.declared.commands.Command.TheVariants as commands
@@ -21,10 +20,10 @@ use Rattle.office_commands.specs.declared.notice.NewNotice.{NewNotice}
 use Rattle.office_commands.specs.declared.tender.NamedSecurity.{NamedSecurity}
 use Rattle.office_values.specs.Ids.{id_cmp, same_id}
 use Rattle.office_base.specs.Parents.{line_of_lot, lot_of_award, lot_of_contract, notice_of_award, notice_of_contract}
-use Rattle.office_base.specs.Rows.{holds_of, row_at}
+use Rattle.office_base.specs.Rows.{row_at}
 use Rattle.office_base.specs.Rules.{first_of}
-use Rattle.office_base.specs.Tables.{IsSorted, Tables, award_at, awards_of_notice, contract_at, entry_cmp, envelope_at, envelopes_of_lot, envelopes_of_notice, lot_at, lot_cmp, lots_of_notice, no_tables, notice_at, same_number, securities_of_lot, securities_of_notice, after_puts}
-use Rattle.office_base.specs.Transitions.{is_held_security, is_in_time, is_late, passed_over, performance_settled, put_if, securities_returned, security_returned, security_settled}
+use Rattle.office_base.specs.Tables.{IsSorted, Tables, award_at, awards_of_notice, contract_at, entry_cmp, envelopes_of_lot, envelopes_of_notice, lot_at, lot_cmp, lots_of_notice, no_tables, notice_at, same_number, securities_of_lot, securities_of_notice, after_puts}
+use Rattle.office_base.specs.Transitions.{is_held_security, passed_over, performance_settled, put_if, securities_returned, security_returned, security_settled}
 use Rattle.office_base.specs.declared.puts.Put.{Put}
 use Rattle.office_base.specs.declared.puts.Put.TheVariants as puts
 use Rattle.office_base.specs.declared.records.AwardRow.{AwardRow}
@@ -45,17 +44,12 @@ use Rattle.office_base.proofs.Orders.{entries_total, lots_total}
 use Rattle.office_base.proofs.RowLaws.Keyed.{found_key, own_key}
 use Rattle.tender_core.specs.Rules.AmendNotice.{amend_notice_puts, amend_notice_rows, amend_notice_tests, amended}
 use Rattle.tender_core.specs.Rules.Cancel.{award_put, cancel_puts, cancel_rows, cancel_tests, cancelled_lot_put, cancelled_notice, drop_put, envelope_put, freed_line_put, is_ended_award, is_ended_envelope, is_ended_security, is_open_lot}
-use Rattle.tender_core.specs.Rules.Import.{after_rows, imported_line_put, import_puts, import_rows}
-use Rattle.tender_core.specs.Rules.Modify.{modify_puts, modify_rows}
 use Rattle.tender_core.specs.Rules.Open.{SealedTender, open_puts, open_rows, open_tests, opened_notice, opened_put}
-use Rattle.tender_core.specs.Rules.Present.{received_puts, security_put}
 use Rattle.tender_core.specs.Rules.Publish.{late_puts, new_lot_put, notice_row, publish_parts, publish_puts, publish_rows, publish_tests, reserving_line_put}
 use Rattle.tender_core.specs.Rules.Register.{register_puts, register_rows}
-use Rattle.tender_core.specs.Rules.Withdraw.{taken_back_puts, withdraw_puts, withdraw_rows}
 use Rattle.award_core.specs.Rules.AmendContract.{amend_contract_puts, amend_contract_rows, amend_contract_tests, entry_kind}
 use Rattle.award_core.specs.Rules.Award.{award_puts, award_rows, decision_puts, winner}
 use Rattle.award_core.specs.Rules.End.{end_puts, end_rows, ended_state}
-use Rattle.award_core.specs.Rules.Examine.{examine_puts, examine_rows}
 use Rattle.award_core.specs.Rules.Fail.{fail_puts, fail_rows}
 use Rattle.award_core.specs.Rules.Pay.{pay_puts, pay_rows, pay_tests}
 use Rattle.award_core.specs.Rules.Sign.{performance_put, sign_puts, sign_rows}
@@ -65,6 +59,7 @@ use Rattle.office_machine.specs.Registered.{TenderersAreKept, tenderer_after}
 use Rattle.office_machine.specs.Rule.{sealed_tenders}
 use Rattle.office_machine.specs.Terms.{NoticeTerms, TermsAreKept, lot_named, lot_terms, lot_terms_after, new_lot_terms, notice_terms, notice_terms_after, notice_terms_by, with_deadline}
 use Rattle.office_machine.proofs.Accounts.Aside.{after-append}
+use Rattle.office_machine.proofs.Commands.Footprint.{Entries, Lots, Notices, Reads, Tenderers}
 use Rattle.office_machine.proofs.FateLaws.QuietFates.{all_append, all_of_map}
 use Rattle.office_machine.proofs.Parents.ParentsPut.{all-filter, all-table}
 use Rattle.office_machine.proofs.Parents.ParentsThere.{parents_there}
@@ -73,6 +68,7 @@ use Rattle.office_machine.proofs.Passed.{allowed_by, neither, none_holds, not_fa
 use Rattle.office_machine.proofs.Rows.SortedTables.{sorted}
 use Rattle.office_machine.proofs.Runs.{along}
 use Rattle.office_machine.proofs.Terms.Said.{Has, Said, Says, Tells, all_if, none_of, puts_entry, puts_lot, puts_notice, puts_tenderer, told_after, uncounted}
+use Rattle.office_machine.proofs.Untouched.{untouched}
 use Rattle.office_machine.proofs.Rows.Keyed as keyed
 
 -- what accepted commands made of a notice, but for its count of releases
@@ -93,6 +89,13 @@ notice_after (x ∷ xs) q = notice_by x.command (time_of x) q (notice_after xs q
 -- what accepted commands said
 abbrev pub said : List Given → Said
 said xs = record { notice = λ q. notice_after xs q; lot = λ q. lot_terms_after xs q; entry = λ q. entry_after xs q; tenderer = λ q. tenderer_after xs q }
+
+reads_said : (w : Said) → Reads (Notices ∷ Lots ∷ Entries ∷ Tenderers ∷ []) (Says w)
+reads_said w (puts.Notice r) other = absurd (let no : true ≡ false = other in cc)
+reads_said w (puts.Lot r) other = absurd (let no : true ≡ false = other in cc)
+reads_said w (puts.Entry r) other = absurd (let no : true ≡ false = other in cc)
+reads_said w (puts.Tenderer r) other = absurd (let no : true ≡ false = other in cc)
+reads_said w _ other = tt
 
 pub all_made : {X Y : Type 0} (P : Y → Type 0) (make : X → Y) (rows : List X) → AllByRecursion (λ x. P (make x)) rows → AllByRecursion P (map make rows)
 all_made P make [] h = tt
@@ -174,31 +177,6 @@ module _ (means : Means) (xs : List Given) (s : Tables) (moment : ℕ) (caller :
 
   returned_said : (securities : List SecurityRow) → AreSaid (securities_returned securities)
   returned_said securities = all_of_map (Says w) security_returned (filter is_held_security securities) (λ _. tt)
-
-  import_said : (t : ℕ) (batch : List ℕ) (rows : List BudgetRow) → AreSaid (import_puts (import_rows s batch rows) t batch)
-  import_said t batch rows = all_append (Says w) (map (imported_line_put (after_rows (import_rows s batch rows).file.lines rows)) rows) _ (all_of_map (Says w) (imported_line_put (after_rows (import_rows s batch rows).file.lines rows)) rows (λ _. tt)) (tt, (tt, tt))
-
-  present_said : (digest : List ℕ → List ℕ) (t : ℕ) (notice lot : List ℕ) (security : Option NamedSecurity) (bytes : List ℕ) (in_time : Bool)
-      → AreSaid (received_puts digest s.clock t caller notice lot security bytes in_time)
-  present_said digest t notice lot security bytes true = (tt, (tt, (tt, all_if (Says w) (security_put s.clock caller notice lot true) security (λ _. tt))))
-  present_said digest t notice lot security bytes false = (tt, (tt, all_if (Says w) (security_put s.clock caller notice lot false) security (λ _. tt)))
-
-  modify_said : (digest : List ℕ → List ℕ) (t receipt : ℕ) (bytes : List ℕ) (o : Option EnvelopeRow)
-      → AreSaid (modify_puts digest (record (modify_rows s receipt) { envelope = o }) t bytes)
-  modify_said digest t receipt bytes None = tt
-  modify_said digest t receipt bytes (Some e) = (tt, (tt, (tt, (tt, (tt, tt)))))
-
-  back_said : (t : ℕ) (e : EnvelopeRow) (security : Option SecurityRow) (late : Bool) → AreSaid (taken_back_puts s.clock t e security late)
-  back_said t e security false = (tt, (tt, (tt, all_if (Says w) (security_settled security_states.Returned) security (λ _. tt))))
-  back_said t e security true = (tt, (tt, all_if (Says w) (security_settled security_states.Forfeited) security (λ _. tt)))
-
-  withdraw_said : (t receipt : ℕ) (o : Option EnvelopeRow) → AreSaid (withdraw_puts (record (withdraw_rows s receipt) { envelope = o }) t)
-  withdraw_said t receipt None = tt
-  withdraw_said t receipt (Some e) = back_said t e (withdraw_rows s receipt).security (is_late (withdraw_rows s receipt).late t (withdraw_rows s receipt).notice)
-
-  examine_said : (t receipt : ℕ) (responsive : Bool) (quality : Option ℕ) (o : Option EnvelopeRow) → AreSaid (examine_puts (record (examine_rows s receipt) { envelope = o }) t responsive quality)
-  examine_said t receipt responsive quality None = tt
-  examine_said t receipt responsive quality (Some e) = (tt, (tt, tt))
 
   decided_said : (t : ℕ) (n : NoticeRow) (l : LotRow) (r : LineRow) (ws : List SecurityRow) → Some (uncounted n) ≡ w.notice n.notice → Some (lot_terms l) ≡ w.lot (l.notice, l.lot)
       → (o : Option EnvelopeRow) → AreSaid (decision_puts s.clock t n l r o ws)
@@ -455,7 +433,6 @@ module _ (means : Means) (xs : List Given) (s : Tables) (moment : ℕ) (caller :
       }
 
   one_told : (command : Command) → IsCommand command → first_of (command_tests (given command)) ≡ None → Tells w (v command) (effect means.readings (given command))
-  one_told (commands.Import batch rows) own allowed = let x = given (commands.Import batch rows) in quiet (v x.command) _ refl (import_said (time_of x) batch rows)
   one_told (commands.Register tenderer name address key) own allowed = register_told tenderer name address key
   one_told (commands.Publish notice new) own allowed =
       publish_told notice new own (none_holds (publish_tests (publish_rows s notice) (time_of (given (commands.Publish notice new))) new) allowed).1.0
@@ -467,14 +444,6 @@ module _ (means : Means) (xs : List Given) (s : Tables) (moment : ℕ) (caller :
   one_told (commands.Open notice) own allowed =
       let x = given (commands.Open notice) in
       open_told notice (sealed_tenders notice s) (notice_at notice s) refl (not_false _ (none_holds (open_tests (open_rows s notice) (time_of x)) allowed).0)
-  one_told (commands.Present notice lot security bytes) own allowed =
-      let x = given (commands.Present notice lot security bytes) in
-      quiet (v x.command) _ refl (present_said means.readings.digest (time_of x) notice lot security bytes (holds_of (is_in_time (time_of x)) (notice_at notice s)))
-  one_told (commands.Modify receipt bytes) own allowed =
-      let x = given (commands.Modify receipt bytes) in quiet (v x.command) _ refl (modify_said means.readings.digest (time_of x) receipt bytes (envelope_at receipt s))
-  one_told (commands.Withdraw receipt) own allowed = let x = given (commands.Withdraw receipt) in quiet (v x.command) _ refl (withdraw_said (time_of x) receipt (envelope_at receipt s))
-  one_told (commands.Examine receipt responsive quality) own allowed =
-      let x = given (commands.Examine receipt responsive quality) in quiet (v x.command) _ refl (examine_said (time_of x) receipt responsive quality (envelope_at receipt s))
   one_told (commands.Award notice lot) own allowed =
       let x = given (commands.Award notice lot) in
       quiet (v x.command) _ refl (award_said (time_of x) notice lot (notice_at notice s) (lot_at (notice, lot) s) (line_of_lot (lot_at (notice, lot) s) s) refl refl)
@@ -503,6 +472,7 @@ module _ (means : Means) (xs : List Given) (s : Tables) (moment : ℕ) (caller :
       let x = given (commands.End contract how) in
       let o : Option ContractRow = contract_at contract s in
       quiet (v x.command) _ refl (end_said (time_of x) contract how o (notice_of_contract o s) (line_of_lot (lot_of_contract o s) s) refl)
+  one_told command own allowed = quiet (v command) _ refl (untouched means xs s moment caller reached (Says w) (Notices ∷ Lots ∷ Entries ∷ Tenderers ∷ []) (reads_said w) command refl allowed)
 
 -- a release and merges say nothing of them
 published_has : (w : Said) (t : Tables) (p : Option ReleaseRow) → Has w t → Has w (after_puts (publication_puts p) t)

@@ -94,7 +94,7 @@ fn release(
 }
 
 /// Plans the publication of a notice. A refusal needs no memory except for the rows. These include a table of the lots' budget lines, so a notice may be
-/// `Unavailable` instead of refused although no look-up failed. `Unavailable` also if a lot, a tender or a release of the notice exists.
+/// `Unavailable` instead of refused although no look-up failed. `Unavailable` also if a row of the notice exists.
 pub fn plan<H: Lookups>(
     alloc: Global,
     shelf: &mut H,

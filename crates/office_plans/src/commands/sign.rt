@@ -121,7 +121,8 @@ fn release<H: Lookups>(
 }
 
 /// Plans the signing of a contract, with a performance security if one is named. A refusal needs no memory except for the rows.
-/// `Unavailable` also if a contract has the award's number, or the security of its tender is missing.
+/// `Unavailable` also if a contract has the award's number or rows of one are there, the security of its tender is missing, or its lot reserves another
+/// amount than its price.
 pub fn plan<H: Lookups>(
     alloc: Global,
     shelf: &mut H,
@@ -140,7 +141,7 @@ pub fn plan<H: Lookups>(
     if let Some(why) = refusal(t, &rows, &security) {
         return Err(why);
     }
-    let taken = cant_be_signed(shelf, award, &rows.envelope)?;
+    let taken = cant_be_signed(shelf, award, &rows)?;
     if taken {
         return Err(Refusal::Unavailable);
     }

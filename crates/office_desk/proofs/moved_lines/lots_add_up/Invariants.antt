@@ -3,10 +3,10 @@ use Rattle.std.specs.List.{list_all}
 use Rattle.office_base.specs.declared.records.LotRow.{LotRow}
 use Rattle.office_base.specs.Shelves.{Looks}
 use Rattle.office_base.specs.Tables.{line_at}
-use Rattle.office_desk.specs.MovedLines.{line_adds_up}
+use Rattle.office_desk.specs.MovedLines.{held_line_adds_up}
 use Rattle.office_desk.proofs.moved_lines.lots_add_up.Given as goal
 
 abbrev pub invariant-loop-lot : goal.invariant-loop-lot
 invariant-loop-lot g l =
     Looks g.H.Lookups.meaning l.fn.shelf l.shelf (λ s. (g.H.Lookups.meaning.fault_count l.shelf ≡ g.H.Lookups.meaning.fault_count l.fn.shelf)
-    × (list_all (λ (row : LotRow). line_adds_up s (line_at row.line s)) (drop l.lot-index l.lots) ≡ list_all (λ (row : LotRow). line_adds_up s (line_at row.line s)) l.lots))
+    × (list_all (λ (row : LotRow). held_line_adds_up s (line_at row.line s)) (drop l.lot-index l.lots) ≡ list_all (λ (row : LotRow). held_line_adds_up s (line_at row.line s)) l.lots))

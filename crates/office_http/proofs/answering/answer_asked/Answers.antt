@@ -72,7 +72,7 @@ returns-in-Err-clause-told g c =
     let is : Err c.in-Err.refusal ≡ c.args.asked = search rules in
     subst (λ (a : Result Asked Refusal). IsTold g.H.Lookups.meaning c.args.desk.now.settings c.args.desk.now.shelf c.args.desk.now.shelf c.args.moment
     (λ s. meant_asked c.args.caller.now a) c.refuse.result) is
-    (λ honest s held needs. (false, c.refuse.ensures, λ none. held, λ done keeps. held))
+    (λ honest s held needs. (false, c.refuse.ensures, λ none. held, λ done keeps. held, λ done. tt))
 
 pub returns-in-Ok-Does-clause-certain : goal.returns-in-Ok-Does-clause-certain
 returns-in-Ok-Does-clause-certain g c =

@@ -1,8 +1,9 @@
 use Rattle.std.proofs.Common.{◌∙◌, None, ap, inr, inl}
 use Rattle.office_commands.specs.declared.command.QueryKind.{QueryKind}
 use Rattle.office_http.specs.Answering.{seen_as}
+use Rattle.office_http.specs.Meaning.{Sees}
 use Rattle.office_http.specs.Response.{response_of}
-use Rattle.office_http.proofs.AlwaysTold.{tells_refused_query, tells_shown_query}
+use Rattle.office_http.proofs.AlwaysTold.{tells_refused_query, tells_shown_query, tells_unavailable}
 use Rattle.office_http.proofs.CertainSteps.{refused_query, shown_query}
 use Rattle.office_http.proofs.AnswerSteps.{query_refused, query_told}
 use Rattle.office_http.proofs.RequestSteps.{tells_some}
@@ -34,6 +35,11 @@ returns-in-Ok-seen_response-clause-told g c honest s held needs =
     (c.in-Ok.ensures.looks.1 honest s held) needs
     (c.built.ensures ∙ c.in-Ok-seen_response.ensures ∙ ap (λ (k : QueryKind). response_of (seen_as k c.in-Ok.text.items)) c.kind.ensures)
     (c.look.ensures.looks.0.same honest s held)
+
+pub returns-in-Err-seen_response-clause-told : goal.returns-in-Err-seen_response-clause-told
+returns-in-Err-seen_response-clause-told g c honest s held needs =
+    tells_unavailable c.args.desk.now.settings s c.args.moment c.constant.result (g.H.Lookups.meaning.holds c.look.new.self.shelf) (Sees c.args.caller.now c.args.query)
+    (c.constant.ensures ∙ c.unavailable.ensures) (c.look.ensures.looks.0.same honest s held)
 
 pub returns-in-Err-clause-certain : goal.returns-in-Err-clause-certain
 returns-in-Err-clause-certain g c honest s held none =

@@ -25,7 +25,7 @@ use Rattle.office_base.specs.declared.puts.Put.TheVariants as puts
 use Rattle.office_base.specs.declared.puts.Put.{Put}
 use Rattle.office_base.specs.States.{is_read}
 use Rattle.office_base.specs.Rules.{first_of}
-use Rattle.office_base.specs.Transitions.{clock_put, with_next_release, is_held_security, security_returned, returned}
+use Rattle.office_base.specs.Transitions.{clock_put, with_next_release, is_held_security, returned}
 use Rattle.award_core.specs.Rules.Award.{is_admissible, is_responsive, lowest_price, winner, unsuccessful, awarded, award_row, decision_puts, award_tests, award_puts}
 use Rattle.office_base.specs.Tables.{Tables, lot_cmp, lot_key, award_key, security_key, award_at, lot_at, notice_at, line_at, envelope_at, seal_at, security_at, envelopes_of_lot, securities_of_lot, after_puts}
 use Rattle.office_base.specs.Parents.{line_of_lot}
@@ -42,12 +42,11 @@ use Rattle.office_machine.proofs.FateLaws.Views.{View, IsSound, AwardFits, Chang
 use Rattle.office_machine.proofs.FateLaws.Added.{added, sound_award}
 use Rattle.office_machine.proofs.FateLaws.Steps.{both_true}
 use Rattle.office_machine.proofs.FateLaws.Decisions.{awarding, fair_awarding, same_lot}
-use Rattle.office_machine.proofs.FateLaws.Seen.{seen, alike, lot_state, notices-same, LotFits, AreInOrder, OnLines, IsOnLine, lines-puts, order-puts, after_securities}
-use Rattle.office_machine.proofs.FateLaws.FatesHold.{FatesStand, Keeps, given, tenders_same, named_same}
-use Rattle.office_machine.proofs.FateLaws.QuietFates.{notice_stands, all_of_map}
+use Rattle.office_machine.proofs.FateLaws.Seen.{seen, alike, lot_state, notices-same, after_securities}
+use Rattle.office_machine.proofs.FateLaws.FatesHold.{FatesStand, HaveFates, Keeps, given, tenders_same, named_same}
+use Rattle.office_machine.proofs.FateLaws.QuietFates.{notice_stands}
 use Rattle.office_machine.proofs.FateLaws.States.{map_same, lots_put, undecided_state, opened_state}
 use Rattle.office_machine.proofs.Commands.Award.Winners.{passing, best_is, best_none, best_some}
-use Rattle.office_machine.proofs.Commands.Fail.Fates.{on_line}
 use Rattle.office_machine.proofs.FateLaws.LotClosed.{closing_kept, securities_go_back}
 use Rattle.office_machine.proofs.Rows.Keyed as keyed
 
@@ -106,9 +105,6 @@ module _ (readings : Readings) (name lot_name : List ℕ) (xs : List Given) (t :
       let no : lot.Awarded ≡ lot.Undecided = cc in
       cc
 
-  line_there : IsOnLine t.lines l
-  line_there = on_line readings xs t kept (name, lot_name) l lot_found
-
   key_is : lot_key l ≡ (name, lot_name)
   key_is = found_key keyed.lots t.lots (name, lot_name) l lot_found
 
@@ -127,14 +123,11 @@ module _ (readings : Readings) (name lot_name : List ℕ) (xs : List Given) (t :
   nobody_is : after_puts nobody_puts t ≡ nobody_after
   nobody_is = after_securities returned (filter is_held_security securities) nobody_first
 
-  nobody_fit : AllByRecursion (LotFits t.lines) nobody_puts
-  nobody_fit = (line_there, (tt, (tt, (tt, all_of_map (LotFits t.lines) security_returned (filter is_held_security securities) (λ s. tt)))))
-
   and_true : (a : Bool) → (a && true) ≡ a
   and_true true = refl
   and_true false = refl
 
-  nobody_kept : winner (Some n) rows ≡ None → FatesStand readings (x ∷ xs) nobody_after
+  nobody_kept : winner (Some n) rows ≡ None → HaveFates readings (x ∷ xs) nobody_after
   nobody_kept nobody =
       closing_kept readings xs x t nobody_after kept name lot_name lot.Unsuccessful refl (λ a w. w)
       (λ h receiving. not_receiving receiving)
@@ -153,8 +146,6 @@ module _ (readings : Readings) (name lot_name : List ℕ) (xs : List Given) (t :
       (λ k. lots_put t.lots (name, lot_name) k l unsuccessful (λ s. lot.Unsuccessful) (λ l. refl) (λ l. refl) lot_found)
       (notices-same t.notices (with_next_release n) (notice_stands t name n notice_found))
       refl
-      (subst (λ (u : Tables). OnLines u.lines u.lots) nobody_is (lines-puts nobody_puts t kept.lines nobody_fit))
-      (subst (λ (u : Tables). AreInOrder u) nobody_is (order-puts nobody_puts t kept.order))
 
   -- a tender wins
   module _ (e : EnvelopeRow) (wins : winner (Some n) rows ≡ Some e) where
@@ -165,7 +156,7 @@ module _ (readings : Readings) (name lot_name : List ℕ) (xs : List Given) (t :
     best =
         best_is Among n.weight lowest rows e
         (passing (λ (f : EnvelopeRow). envelope_at f.receipt t ≡ Some f) (λ (f : EnvelopeRow). same_id f.notice name && same_id f.lot lot_name) t.envelopes
-        (each_found keyed.envelopes t.envelopes kept.order.0))
+        (each_found keyed.envelopes t.envelopes kept.order.envelopes))
         wins
 
     admissible : (is_read e.state ≡ true) × (not e.failed ≡ true)
@@ -225,7 +216,7 @@ module _ (readings : Readings) (name lot_name : List ℕ) (xs : List Given) (t :
     and_false true = refl
     and_false false = refl
 
-    awarded_kept : FatesStand readings (x ∷ xs) after
+    awarded_kept : HaveFates readings (x ∷ xs) after
     awarded_kept = record {
       sound = sound_after;
       tenders =
@@ -237,25 +228,23 @@ module _ (readings : Readings) (name lot_name : List ℕ) (xs : List Given) (t :
           ap (λ b. cond (is_received_for name lot_name (received_at xs s) && b) security.Returned security.Held) (ap not (best_some n.weight lowest rows e wins))
           ∙ ap (λ b. cond b security.Returned security.Held) (and_false (is_received_for name lot_name (received_at xs s))))
           (λ s. refl);
-      lines = lines-puts ps t kept.lines (tt, (line_there, (tt, (tt, (tt, tt)))));
-      order = order-puts ps t kept.order;
     }
 
   decided_kept : (won : Option EnvelopeRow) → winner (Some n) rows ≡ won
-      → FatesStand readings (x ∷ xs) (after_puts (decision_puts t.clock T n l r won securities) t)
-  decided_kept None wins = subst (FatesStand readings (x ∷ xs)) (sym nobody_is) (nobody_kept wins)
+      → HaveFates readings (x ∷ xs) (after_puts (decision_puts t.clock T n l r won securities) t)
+  decided_kept None wins = subst (HaveFates readings (x ∷ xs)) (sym nobody_is) (nobody_kept wins)
   decided_kept (Some e) wins = awarded_kept e wins
 
 award_by : (readings : Readings) (name lot_name : List ℕ) (xs : List Given) (t : Tables) (m : ℕ) (caller : Caller) (kept : FatesStand readings xs t) (n : NoticeRow) → notice_at name t ≡ Some n
     → (l : LotRow) → lot_at (name, lot_name) t ≡ Some l
     → first_of (award_tests (record { notice = Some n; lot = Some l; line = line_at l.line t; envelopes = envelopes_of_lot name lot_name t; securities = []; clock = t.clock }) (max m t.clock.moment)) ≡ None
-    → FatesStand readings (given t m caller (Award name lot_name) ∷ xs)
+    → HaveFates readings (given t m caller (Award name lot_name) ∷ xs)
     (after_puts (award_puts (record { notice = Some n; lot = Some l; line = line_at l.line t; envelopes = envelopes_of_lot name lot_name t; securities = securities_of_lot name lot_name t; clock = t.clock }) (max m t.clock.moment)) t)
 award_by readings name lot_name xs t m caller kept n n_is l l_is allowed =
     let tests = award_tests (record { notice = Some n; lot = Some l; line = line_at l.line t; envelopes = envelopes_of_lot name lot_name t; securities = []; clock = t.clock }) (max m t.clock.moment) in
     let passes : AllByRecursion (λ (test : Bool × Refusal). test.0 ≡ false) tests = none_holds tests allowed in
-    let r = there (line_at l.line t) (on_line readings xs t kept (name, lot_name) l l_is) in
-    subst (λ o. FatesStand readings (given t m caller (Award name lot_name) ∷ xs)
+    let r = there (line_at l.line t) (kept.parents.lots (name, lot_name) l l_is).line in
+    subst (λ o. HaveFates readings (given t m caller (Award name lot_name) ∷ xs)
     (after_puts (award_puts (record { notice = Some n; lot = Some l; line = o; envelopes = envelopes_of_lot name lot_name t; securities = securities_of_lot name lot_name t; clock = t.clock }) (max m t.clock.moment)) t)) (sym r.1)
     (decided_kept readings name lot_name xs t m caller kept n n_is l l_is r.0 (opened_state n.state passes.1.1.0) (undecided_state l.state passes.1.1.1.0) (winner (Some n) (envelopes_of_lot name lot_name t)) refl)
 
@@ -269,11 +258,11 @@ award_keeps readings name lot_name xs t m caller kept _ allowed =
   where
     Goal : Option NoticeRow → Option LotRow → Type 0
     Goal o p = first_of (award_tests (record { notice = o; lot = p; line = line_of_lot p t; envelopes = envelopes_of_lot name lot_name t; securities = []; clock = t.clock }) (max m t.clock.moment)) ≡ None
-        → FatesStand readings (given t m caller (Award name lot_name) ∷ xs)
+        → HaveFates readings (given t m caller (Award name lot_name) ∷ xs)
         (after_puts (award_puts (record { notice = o; lot = p; line = line_of_lot p t; envelopes = envelopes_of_lot name lot_name t; securities = securities_of_lot name lot_name t; clock = t.clock }) (max m t.clock.moment)) t)
 
     by_rows : (n : NoticeRow) → notice_at name t ≡ Some n → (l : LotRow) → lot_at (name, lot_name) t ≡ Some l
-        → FatesStand readings (given t m caller (Award name lot_name) ∷ xs)
+        → HaveFates readings (given t m caller (Award name lot_name) ∷ xs)
         (after_puts (award_puts (record { notice = notice_at name t; lot = (lot_at (name, lot_name) t); line = (line_of_lot (lot_at (name, lot_name) t) t); envelopes = envelopes_of_lot name lot_name t; securities = securities_of_lot name lot_name t; clock = t.clock }) (max m t.clock.moment)) t)
     by_rows n n_is l l_is =
         let goal : Goal (notice_at name t) (lot_at (name, lot_name) t) =

@@ -11,9 +11,8 @@ use Rattle.office_commands.specs.declared.command.Caller.{Caller}
 use Rattle.office_commands.specs.declared.commands.Command.TheVariants.{Cancel}
 use Rattle.office_values.specs.declared.refusal.Refusal.{Refusal}
 use Rattle.office_base.specs.Rows.{holds_of}
-use Rattle.office_base.proofs.RowLaws.Filters.{if_passes, filter_filter, row_at-filter, all_filter}
+use Rattle.office_base.proofs.RowLaws.Filters.{if_passes, filter_filter, row_at-filter}
 use Rattle.office_base.proofs.RowLaws.Keyed.{found_key}
-use Rattle.office_base.specs.declared.records.LineRow.{LineRow}
 use Rattle.office_base.specs.declared.records.NoticeRow.{NoticeRow}
 use Rattle.office_base.specs.declared.records.LotRow.{LotRow}
 use Rattle.office_base.specs.declared.records.EnvelopeRow.{EnvelopeRow}
@@ -43,9 +42,8 @@ use Rattle.office_machine.proofs.Rows.RowsChanged.{rows_put, rows_drop, changed,
 use Rattle.office_machine.proofs.FateLaws.Views.{Change, after_change}
 use Rattle.office_machine.proofs.FateLaws.Steps.{cond_keeps}
 use Rattle.office_machine.proofs.FateLaws.Decisions.{cancelling, fair_cancelling}
-use Rattle.office_machine.proofs.FateLaws.Seen.{seen, alike, lot_state, LotFits, IsOnLine, OnLines, AreInOrder, lines-puts, order-puts, after-append, after_lines, after_lots, after_awards, after_envelopes, after_securities, after_drops, row_at-drops}
-use Rattle.office_machine.proofs.FateLaws.FatesHold.{FatesStand, Keeps, given}
-use Rattle.office_machine.proofs.FateLaws.QuietFates.{all_append, all_of_map}
+use Rattle.office_machine.proofs.FateLaws.Seen.{seen, alike, lot_state, after-append, after_lines, after_lots, after_awards, after_envelopes, after_securities, after_drops, row_at-drops}
+use Rattle.office_machine.proofs.FateLaws.FatesHold.{FatesStand, HaveFates, Keeps, given}
 use Rattle.office_machine.proofs.FateLaws.FatesChanged.{kept_by_change, sealed_live}
 use Rattle.office_machine.proofs.FateLaws.States.{notices_put}
 use Rattle.office_machine.proofs.Rows.Keyed as keyed
@@ -55,10 +53,6 @@ no_both true true = refl
 no_both true false = refl
 no_both false true = refl
 no_both false false = refl
-
-lots_fit : (lines : List LineRow) (rows : List LotRow) → AllByRecursion (IsOnLine lines) rows → AllByRecursion (LotFits lines) (map cancelled_lot_put rows)
-lots_fit lines [] h = tt
-lots_fit lines (l ∷ rows) h = (h.0, lots_fit lines rows h.1)
 
 -- two tests that agree on the found row change it alike
 tests_agree : {X : Type 0} (p q : X → Bool) (g : X → X) (o : Option X) → ((x : X) → o ≡ Some x → p x ≡ q x)
@@ -81,7 +75,7 @@ module _ (readings : Readings) (name : List ℕ) (rationale : List ℕ) (xs : Li
   E q k = ends lots q k
 
   ends_is : (q k : List ℕ) → E q k ≡ holds_of is_open_lot (if_passes (of_notice name) (lot_at (q, k) t))
-  ends_is q k = ap (holds_of is_open_lot) (row_at-filter keyed.lots (of_notice name) t.lots (q, k) kept.order.4)
+  ends_is q k = ap (holds_of is_open_lot) (row_at-filter keyed.lots (of_notice name) t.lots (q, k) kept.order.lots)
 
   ends_by : (q k : List ℕ) (o : Option LotRow) → lot_at (q, k) t ≡ o → holds_of is_open_lot (if_passes (of_notice name) o) ≡ true → q ≡ name
   ends_by q k None at h = let no : false ≡ true = h in cc
@@ -181,20 +175,20 @@ module _ (readings : Readings) (name : List ℕ) (rationale : List ℕ) (xs : Li
   envelopes_are : (r : ℕ) → envelope_at r after ≡ option_map (c.envelope_to r) (envelope_at r t)
   envelopes_are r =
       ap (λ rows. Rattle.office_base.specs.Tables.find_envelope (rows_put nat_cmp envelope_key t.envelopes (map returned_envelope rows)) r) (filter_filter (is_ended_envelope lots) (λ (e : EnvelopeRow). same_id e.notice name) t.envelopes)
-      ∙ row_at-changed nat_cmp_total nat_cmp-IsAntisymmetric envelope_key returned_envelope (λ e. refl) envelope_test t.envelopes r kept.order.0
+      ∙ row_at-changed nat_cmp_total nat_cmp-IsAntisymmetric envelope_key returned_envelope (λ e. refl) envelope_test t.envelopes r kept.order.envelopes
       ∙ tests_agree envelope_test (λ (e : EnvelopeRow). is_sealed e.state && E e.notice e.lot) returned_envelope (envelope_at r t) (λ e at. of_notice_too e.notice e.lot (is_sealed e.state) (E e.notice e.lot) refl)
 
   securities_are : (s : ℕ) → security_at s after ≡ option_map (c.security_to s) (security_at s t)
   securities_are s =
       ap (λ rows. Rattle.office_base.specs.Tables.find_security (rows_put nat_cmp security_key t.securities (map returned rows)) s) (filter_filter (is_ended_security lots) (λ (w : SecurityRow). same_id w.notice name) t.securities)
-      ∙ row_at-changed nat_cmp_total nat_cmp-IsAntisymmetric security_key returned (λ w. refl) (λ (w : SecurityRow). same_id w.notice name && is_ended_security lots w) t.securities s kept.order.2
+      ∙ row_at-changed nat_cmp_total nat_cmp-IsAntisymmetric security_key returned (λ w. refl) (λ (w : SecurityRow). same_id w.notice name && is_ended_security lots w) t.securities s kept.order.securities
       ∙ tests_agree (λ (w : SecurityRow). same_id w.notice name && is_ended_security lots w) (λ (w : SecurityRow). is_held w.state && E w.notice w.lot) returned (security_at s t)
       (λ w at. of_notice_too w.notice w.lot (is_held w.state) (E w.notice w.lot) refl)
 
   awards_are : (a : ℕ) → award_at a after ≡ option_map (c.award_to a) (award_at a t)
   awards_are a =
       ap (λ rows. Rattle.office_base.specs.Tables.find_award (rows_put nat_cmp award_key t.awards (map cancelled_award rows)) a) (filter_filter (is_ended_award lots) (λ (w : AwardRow). same_id w.notice name) t.awards)
-      ∙ row_at-changed nat_cmp_total nat_cmp-IsAntisymmetric award_key cancelled_award (λ w. refl) (λ (w : AwardRow). same_id w.notice name && is_ended_award lots w) t.awards a kept.order.3
+      ∙ row_at-changed nat_cmp_total nat_cmp-IsAntisymmetric award_key cancelled_award (λ w. refl) (λ (w : AwardRow). same_id w.notice name && is_ended_award lots w) t.awards a kept.order.awards
       ∙ tests_agree (λ (w : AwardRow). same_id w.notice name && is_ended_award lots w) (λ (w : AwardRow). is_active w.state && E w.notice w.lot) cancelled_award (award_at a t)
       (λ w at. of_notice_too w.notice w.lot (is_active w.state) (E w.notice w.lot) refl)
 
@@ -220,7 +214,7 @@ module _ (readings : Readings) (name : List ℕ) (rationale : List ℕ) (xs : Li
   lots_are : (k : List ℕ × List ℕ) → (seen after).lot_at k ≡ option_map (c.lot_to k) ((seen t).lot_at k)
   lots_are k =
       ap (λ rows. option_map lot_state (find_lot (rows_put lot_cmp lot_key t.lots (map cancelled_lot rows)) k)) (filter_filter is_open_lot (of_notice name) t.lots)
-      ∙ ap (option_map lot_state) (row_at-changed lots_total lots_exact lot_key cancelled_lot (λ l. refl) (λ (r : LotRow). of_notice name r && is_open_lot r) t.lots k kept.order.4)
+      ∙ ap (option_map lot_state) (row_at-changed lots_total lots_exact lot_key cancelled_lot (λ l. refl) (λ (r : LotRow). of_notice name r && is_open_lot r) t.lots k kept.order.lots)
       ∙ lots_by (lot_at k t)
       ∙ ap (λ b. option_map (λ s. cond b lot.Cancelled s) ((seen t).lot_at k)) (sym (ends_is k.0 k.1))
 
@@ -233,8 +227,8 @@ module _ (readings : Readings) (name : List ℕ) (rationale : List ℕ) (xs : Li
   seal_is : (r : ℕ) → seal_at r after ≡ cond (holds_of envelope_test (envelope_at r t)) None (seal_at r t)
   seal_is r =
       ap (λ rows. Rattle.office_base.specs.Tables.find_seal (rows_drop nat_cmp seal_key t.seals (map (λ (e : EnvelopeRow). e.receipt) rows)) r) (filter_filter (is_ended_envelope lots) (λ (e : EnvelopeRow). same_id e.notice name) t.envelopes)
-      ∙ row_at-drops envelope_test t.envelopes t.seals r kept.order.1
-      ∙ ap (λ b. cond b None (seal_at r t)) (some_passes_is nat_cmp_total nat_cmp-IsAntisymmetric envelope_key envelope_test t.envelopes r kept.order.0)
+      ∙ row_at-drops envelope_test t.envelopes t.seals r kept.order.seals
+      ∙ ap (λ b. cond b None (seal_at r t)) (some_passes_is nat_cmp_total nat_cmp-IsAntisymmetric envelope_key envelope_test t.envelopes r kept.order.envelopes)
 
   seal_goes : (r : ℕ) (d : EnvelopeRow) (a : Reception) → envelope_at r t ≡ Some d → EnvelopeIs readings.digest r a (fate_of_tender xs r) d (seal_at r t)
       → seal_at r after ≡ cond (is_kept (c.envelope_to r d).state) (Some (record { receipt = r; bytes = a.bytes })) None
@@ -287,17 +281,7 @@ module _ (readings : Readings) (name : List ℕ) (rationale : List ℕ) (xs : Li
       by security.Returned e = e
       by security.Forfeited e = e
 
-  fit : AllByRecursion (LotFits t.lines) ps
-  fit =
-      all_append (LotFits t.lines) (map (freed_line_put t.lines open_lots) open_lots) _ (all_of_map (LotFits t.lines) (freed_line_put t.lines open_lots) open_lots (λ l. tt))
-      (all_append (LotFits t.lines) (map cancelled_lot_put open_lots) _
-      (lots_fit t.lines open_lots (all_filter (IsOnLine t.lines) is_open_lot lots (all_filter (IsOnLine t.lines) (of_notice name) t.lots kept.lines)))
-      (all_append (LotFits t.lines) (map award_put ended_awards) _ (all_of_map (LotFits t.lines) award_put ended_awards (λ w. tt))
-      (all_append (LotFits t.lines) (map envelope_put ended_envelopes) _ (all_of_map (LotFits t.lines) envelope_put ended_envelopes (λ e. tt))
-      (all_append (LotFits t.lines) (map drop_put ended_envelopes) _ (all_of_map (LotFits t.lines) drop_put ended_envelopes (λ e. tt))
-      (all_append (LotFits t.lines) (map security_returned ended_securities) last_puts (all_of_map (LotFits t.lines) security_returned ended_securities (λ w. tt)) (tt, (tt, tt)))))))
-
-  cancelled_kept : FatesStand readings (x ∷ xs) after
+  cancelled_kept : HaveFates readings (x ∷ xs) after
   cancelled_kept =
       kept_by_change readings xs x t after c kept (fair_cancelling (seen t) kept.sound name E ends_only ends_all)
       (record {
@@ -326,18 +310,16 @@ module _ (readings : Readings) (name : List ℕ) (rationale : List ℕ) (xs : Li
         no_seal = λ r at none. seal_is r ∙ ap (λ b. cond b None (seal_at r t)) (ap (holds_of envelope_test) at) ∙ none;
         security_goes = security_goes;
       })
-      (subst (λ (u : Tables). OnLines u.lines u.lots) after_is (lines-puts ps t kept.lines fit))
-      (subst (λ (u : Tables). AreInOrder u) after_is (order-puts ps t kept.order))
 
 cancel_by : (readings : Readings) (name rationale : List ℕ) (xs : List Given) (t : Tables) (m : ℕ) (caller : Caller) (kept : FatesStand readings xs t) (o : Option NoticeRow) → notice_at name t ≡ o
     → first_of (cancel_tests (record { notice = o; lines = []; lots = lots_of_notice name t; awards = []; envelopes = []; securities = []; clock = t.clock })) ≡ None
-    → FatesStand readings (given t m caller (Cancel name rationale) ∷ xs)
+    → HaveFates readings (given t m caller (Cancel name rationale) ∷ xs)
     (after_puts (cancel_puts (record { notice = o; lines = t.lines; lots = lots_of_notice name t; awards = awards_of_notice name t; envelopes = envelopes_of_notice name t; securities = securities_of_notice name t; clock = t.clock }) (max m t.clock.moment)) t)
 cancel_by readings name rationale xs t m caller kept None found allowed =
     let passes : AllByRecursion (λ (test : Bool × Refusal). test.0 ≡ false) (cancel_tests (record { notice = None; lines = []; lots = lots_of_notice name t; awards = []; envelopes = []; securities = []; clock = t.clock })) = none_holds (cancel_tests (record { notice = None; lines = []; lots = lots_of_notice name t; awards = []; envelopes = []; securities = []; clock = t.clock })) allowed in
     let no : true ≡ false = passes.0 in absurd cc
 cancel_by readings name rationale xs t m caller kept (Some n) found allowed =
-    subst (FatesStand readings (given t m caller (Cancel name rationale) ∷ xs)) (sym (after_is readings name rationale xs t m caller kept n found)) (cancelled_kept readings name rationale xs t m caller kept n found)
+    subst (HaveFates readings (given t m caller (Cancel name rationale) ∷ xs)) (sym (after_is readings name rationale xs t m caller kept n found)) (cancelled_kept readings name rationale xs t m caller kept n found)
 
 pub cancel_keeps : (readings : Readings) (notice : List ℕ) (rationale : List ℕ) → Keeps readings (Cancel notice rationale)
 cancel_keeps readings name rationale xs t m caller kept _ allowed = cancel_by readings name rationale xs t m caller kept (notice_at name t) refl allowed

@@ -1,5 +1,5 @@
 -- A failure of an award keeps the fates.
-use Rattle.std.specs.Prelude.{◌≡◌, ℕ, Bool, true, false, cond, List, [], ◌∷◌, Option, Some, None, option_map, option_and_then, is_some, max}
+use Rattle.std.specs.Prelude.{◌≡◌, ℕ, Bool, true, false, cond, List, ◌∷◌, Option, Some, None, option_map, option_and_then, is_some, max}
 use Rattle.std.proofs.Common.{refl, sym, ap, ◌∙◌, subst}
 use Rattle.std.specs.List.{AllByRecursion}
 use Rattle.std.specs.Cmp.{nat_cmp_total}
@@ -34,12 +34,11 @@ use Rattle.office_machine.proofs.FateLaws.Views.{AwardFits, Change, after_change
 use Rattle.office_machine.proofs.FateLaws.Matched.{EnvelopeStands}
 use Rattle.office_machine.proofs.FateLaws.Steps.{cond_keeps, settled_keep, settled_goes}
 use Rattle.office_machine.proofs.FateLaws.Decisions.{failing, fair_failing}
-use Rattle.office_machine.proofs.FateLaws.Seen.{seen, alike, lot_state, notice_state, notices-same, LotFits, IsOnLine, lines-puts, order-puts}
-use Rattle.office_machine.proofs.FateLaws.FatesHold.{FatesStand, Keeps, given, still_sealed}
+use Rattle.office_machine.proofs.FateLaws.Seen.{seen, alike, lot_state, notice_state, notices-same}
+use Rattle.office_machine.proofs.FateLaws.FatesHold.{FatesStand, HaveFates, Keeps, given, still_sealed}
 use Rattle.office_machine.proofs.FateLaws.QuietFates.{notice_stands}
 use Rattle.office_machine.proofs.FateLaws.FatesChanged.{kept_by_change, securities_put, securities_left}
 use Rattle.office_machine.proofs.FateLaws.States.{map_same, lots_put, active_state}
-use Rattle.office_base.proofs.RowLaws.{all-found}
 use Rattle.office_machine.proofs.Rows.Keyed as keyed
 
 -- the row that has this state
@@ -50,17 +49,6 @@ row_of f (Some x) s h = (x, refl, let is : Some (f x) ≡ Some s = h in cc)
 pub row_there : {X S : Type 0} (f : X → S) (o : Option X) → is_some (option_map f o) ≡ true → (x : X) × (o ≡ Some x)
 row_there f None h = absurd (let no : false ≡ true = h in cc)
 row_there f (Some x) h = (x, refl)
-
--- the line of an existing lot exists
-pub on_line : (readings : Readings) (xs : List Given) (t : Tables) (kept : FatesStand readings xs t) (k : List ℕ × List ℕ) (l : LotRow) → lot_at k t ≡ Some l
-    → IsOnLine t.lines l
-on_line readings xs t kept k l found =
-    all-found Rattle.office_base.proofs.Orders.lots_total lot_key (λ (o : Option LotRow). o ≡ Some l → IsOnLine t.lines l) t.lots k (λ h. let no : None ≡ Some l = h in absurd cc)
-    (each t.lots kept.lines) found
-  where
-    each : (rows : List LotRow) → AllByRecursion (IsOnLine t.lines) rows → AllByRecursion (λ (r : LotRow). Some r ≡ Some l → IsOnLine t.lines l) rows
-    each [] h = tt
-    each (r ∷ rows) h = ((λ e. let is : r ≡ l = cc in subst (IsOnLine t.lines) is h.0), each rows h.1)
 
 module _ (readings : Readings) (number : ℕ) (xs : List Given) (t : Tables) (m : ℕ) (caller : Caller) (kept : FatesStand readings xs t)
     (w : AwardRow) (found : award_at number t ≡ Some w) (active : w.state ≡ award.Active) where
@@ -107,8 +95,7 @@ module _ (readings : Readings) (number : ℕ) (xs : List Given) (t : Tables) (m 
     module _ (so : Option SecurityRow) (envelopes_are : (r : ℕ) → envelope_at r (after so) ≡ envelope_at r (after None))
         (back : (s : ℕ) → security_at s (after so) ≡ option_map (λ v. cond (has_number s e.security) (forfeited v) v) (security_at s t))
         (rest : seen (after so) ≡ record (seen (after None)) { envelope_at = λ r. envelope_at r (after so); security_at = λ s. security_at s (after so) })
-        (seals_are : (after so).seals ≡ t.seals) (receipts_are : (after so).clock.receipts ≡ t.clock.receipts)
-        (fit : AllByRecursion (LotFits t.lines) (ps so)) where
+        (seals_are : (after so).seals ≡ t.seals) (receipts_are : (after so).clock.receipts ≡ t.clock.receipts) where
       seen_is : seen (after so) ≡ after_change c (seen t)
       seen_is =
           rest
@@ -119,7 +106,7 @@ module _ (readings : Readings) (number : ℕ) (xs : List Given) (t : Tables) (m 
           (λ k. lots_put t.lots (w.notice, w.lot) k l undecided_again (λ s. lot.Undecided) (λ l. refl) (λ l. refl) lot_found)
           (λ q. notices-same t.notices (with_next_release n) (notice_stands t w.notice n notice_found) q ∙ map_same ((seen t).notice_at q))
 
-      failed_kept : FatesStand readings (x ∷ xs) (after so)
+      failed_kept : HaveFates readings (x ∷ xs) (after so)
       failed_kept =
           kept_by_change readings xs x t (after so) c kept (fair_failing (seen t) kept.sound number w found active fits)
           (record {
@@ -143,21 +130,16 @@ module _ (readings : Readings) (number : ℕ) (xs : List Given) (t : Tables) (m 
             no_seal = λ r at none. ap (λ rows. Rattle.office_base.specs.Tables.find_seal rows r) seals_are ∙ none;
             security_goes = security_goes;
           })
-          (lines-puts (ps so) t kept.lines fit)
-          (order-puts (ps so) t kept.order)
 
-    line_there : IsOnLine t.lines (undecided_again l)
-    line_there = on_line readings xs t kept (w.notice, w.lot) l lot_found
-
-    by_security : (sec : Option ℕ) → e.security ≡ sec → FatesStand readings (x ∷ xs) (after (option_and_then (λ n. security_at n t) sec))
+    by_security : (sec : Option ℕ) → e.security ≡ sec → HaveFates readings (x ∷ xs) (after (option_and_then (λ n. security_at n t) sec))
     by_security None none =
-        failed_kept None (λ r. refl) (λ s. securities_left forfeited t.securities s ∙ ap (λ o. option_map (λ v. cond (has_number s o) (forfeited v) v) (security_at s t)) (sym none)) refl refl refl (tt, (line_there, (tt, (tt, (tt, tt)))))
+        failed_kept None (λ r. refl) (λ s. securities_left forfeited t.securities s ∙ ap (λ o. option_map (λ v. cond (has_number s o) (forfeited v) v) (security_at s t)) (sym none)) refl refl refl
     by_security (Some k) carried =
         let is = (kept.sound.envelopes w.receipt e fits.found).secured k carried in
-        subst (λ so. FatesStand readings (x ∷ xs) (after so)) (sym is.found)
+        subst (λ so. HaveFates readings (x ∷ xs) (after so)) (sym is.found)
         (failed_kept (Some is.row) (λ r. refl)
         (λ s. securities_put forfeited t.securities k is.row is.found refl s ∙ ap (λ o. option_map (λ v. cond (has_number s o) (forfeited v) v) (security_at s t)) (sym carried))
-        refl refl refl (tt, (line_there, (tt, (tt, (tt, (tt, tt)))))))
+        refl refl refl)
 
   -- the rows that the command needs exist
   pub rows_there : (P : Option NoticeRow → Option LotRow → Option EnvelopeRow → Type 0)
@@ -171,15 +153,15 @@ module _ (readings : Readings) (number : ℕ) (xs : List Given) (t : Tables) (m 
       (subst (λ o. P (Some n.0) o (envelope_at w.receipt t)) (sym l.1)
       (subst (λ o. P (Some n.0) (Some l.0) o) (sym fits.found) (f n.0 n.1 l.0 l.1)))
 
-  fail_kept : FatesStand readings (x ∷ xs) (after_puts (fail_puts (record { award = Some w; notice = notice_at w.notice t; lot = (lot_at (w.notice, w.lot) t); envelope = envelope_at w.receipt t; security = (security_of_envelope (envelope_at w.receipt t) t); clock = t.clock }) T) t)
+  fail_kept : HaveFates readings (x ∷ xs) (after_puts (fail_puts (record { award = Some w; notice = notice_at w.notice t; lot = (lot_at (w.notice, w.lot) t); envelope = envelope_at w.receipt t; security = (security_of_envelope (envelope_at w.receipt t) t); clock = t.clock }) T) t)
   fail_kept =
-      rows_there (λ n l o. FatesStand readings (x ∷ xs) (after_puts (fail_puts (record { award = Some w; notice = n; lot = l; envelope = o; security = security_of_envelope o t; clock = t.clock }) T) t))
+      rows_there (λ n l o. HaveFates readings (x ∷ xs) (after_puts (fail_puts (record { award = Some w; notice = n; lot = l; envelope = o; security = security_of_envelope o t; clock = t.clock }) T) t))
       (λ n n_is l l_is. by_security n n_is l l_is e.security refl)
 
 fail_by : (readings : Readings) (number : ℕ) (xs : List Given) (t : Tables) (m : ℕ) (caller : Caller) (kept : FatesStand readings xs t) (o : Option AwardRow)
     → award_at number t ≡ o
     → first_of (fail_tests (record { award = o; notice = notice_of_award o t; lot = None; envelope = None; security = None; clock = t.clock }) (max m t.clock.moment)) ≡ None
-    → FatesStand readings (given t m caller (Fail number) ∷ xs)
+    → HaveFates readings (given t m caller (Fail number) ∷ xs)
     (after_puts (fail_puts (record { award = o; notice = notice_of_award o t; lot = lot_of_award o t; envelope = envelope_of_award o t; security = (security_of_envelope (envelope_of_award o t) t); clock = t.clock }) (max m t.clock.moment)) t)
 fail_by readings number xs t m caller kept None found allowed =
     let passes : AllByRecursion (λ (test : Bool × Refusal). test.0 ≡ false) (fail_tests (record { award = None; notice = None; lot = None; envelope = None; security = None; clock = t.clock }) (max m t.clock.moment)) = none_holds (fail_tests (record { award = None; notice = None; lot = None; envelope = None; security = None; clock = t.clock }) (max m t.clock.moment)) allowed in

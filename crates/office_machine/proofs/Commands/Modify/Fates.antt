@@ -30,8 +30,8 @@ use Rattle.office_machine.proofs.FateLaws.Views.{View, IsSound, EnvelopeFits, Ch
 use Rattle.office_machine.proofs.FateLaws.Added.{added, equal_numbers, sound_envelope}
 use Rattle.office_machine.proofs.FateLaws.Matched.{EnvelopesMatch, EnvelopeStands, EnvelopeKeeps, named_in, same_itself, envelopes_received}
 use Rattle.office_machine.proofs.FateLaws.Steps.{cond_keeps, taking_back, fair_withdrawal}
-use Rattle.office_machine.proofs.FateLaws.Seen.{seen, alike, order-puts}
-use Rattle.office_machine.proofs.FateLaws.FatesHold.{FatesStand, Keeps, given, fate_goes, still_sealed}
+use Rattle.office_machine.proofs.FateLaws.Seen.{seen, alike}
+use Rattle.office_machine.proofs.FateLaws.FatesHold.{FatesStand, HaveFates, Keeps, given, fate_goes, still_sealed}
 use Rattle.office_machine.proofs.FateLaws.FatesChanged.{is_sealed_state}
 use Rattle.office_machine.proofs.FateLaws.States.{map_same}
 use Rattle.office_machine.proofs.FateLaws.NextReceipt.{none_fate, came_other, came_here, no_envelope_yet, nothing_yet, securities_stay}
@@ -110,7 +110,7 @@ module _ (readings : Readings) (receipt : ℕ) (bytes : List ℕ) (xs : List Giv
     seal_is r =
         row_at-row_put nat_cmp_total seal_key (drop_seal t.seals e.receipt) new_seal r
         ∙ ap (cond (eq_by_cmp nat_cmp r k) (Some new_seal))
-        (row_at-row_drop keyed.seals t.seals e.receipt r kept.order.1 ∙ ap (λ q. cond (eq_by_cmp nat_cmp r q) None (seal_at r t)) key_own)
+        (row_at-row_drop keyed.seals t.seals e.receipt r kept.order.seals ∙ ap (λ q. cond (eq_by_cmp nat_cmp r q) None (seal_at r t)) key_own)
 
     other_seal : (r : ℕ) → eq_by_cmp nat_cmp r k ≡ false → seal_at r after ≡ cond (eq_by_cmp nat_cmp r receipt) None (seal_at r t)
     other_seal r other = seal_is r ∙ ap (λ b. cond b (Some new_seal) (cond (eq_by_cmp nat_cmp r receipt) None (seal_at r t))) other
@@ -199,18 +199,16 @@ module _ (readings : Readings) (receipt : ℕ) (bytes : List ℕ) (xs : List Giv
     unnamed None = refl
     unnamed (Some a) = refl
 
-    modified_kept : FatesStand readings (x ∷ xs) after
+    modified_kept : HaveFates readings (x ∷ xs) after
     modified_kept = record {
       sound = sound_after;
       tenders =
           subst (EnvelopesMatch readings.digest (received_at (x ∷ xs)) (fate_of_tender (x ∷ xs)) (λ r. seal_at r after) k) (sym (λ i r. envelopes_are r i)) tenders_after;
       named = securities_stay readings xs t kept x (unnamed (received_at xs receipt)) (λ s. refl);
-      lines = kept.lines;
-      order = order-puts (modify_puts readings.digest (record { envelope = Some e; notice = None; clock = t.clock }) T bytes) t kept.order;
     }
 
   by_envelope : (o : Option EnvelopeRow) → envelope_at receipt t ≡ o → first_of (modify_tests (record { envelope = o; notice = notice_of_envelope o t; clock = t.clock }) T caller) ≡ None
-      → FatesStand readings (x ∷ xs) (after_puts (modify_puts readings.digest (record { envelope = o; notice = None; clock = t.clock }) T bytes) t)
+      → HaveFates readings (x ∷ xs) (after_puts (modify_puts readings.digest (record { envelope = o; notice = None; clock = t.clock }) T bytes) t)
   by_envelope None found allowed =
       let passes : AllByRecursion (λ (test : Bool × Refusal). test.0 ≡ false) (modify_tests (record { envelope = None; notice = None; clock = t.clock }) T caller) = none_holds (modify_tests (record { envelope = None; notice = None; clock = t.clock }) T caller) allowed in
       let no : true ≡ false = passes.0 in cc

@@ -30,8 +30,8 @@ use Rattle.office_machine.proofs.Rows.RowsChanged.{rows_put, changed, row_at-cha
 use Rattle.office_base.proofs.RowLaws.Filters.{filter_filter}
 use Rattle.office_machine.proofs.FateLaws.Views.{Change, after_change}
 use Rattle.office_machine.proofs.FateLaws.Steps.{choose, cond_keeps, both_true, opening, fair_opening}
-use Rattle.office_machine.proofs.FateLaws.Seen.{seen, alike, order-puts, after-append, after_envelopes}
-use Rattle.office_machine.proofs.FateLaws.FatesHold.{FatesStand, Keeps, given, still_held, securities_keep}
+use Rattle.office_machine.proofs.FateLaws.Seen.{seen, alike, after-append, after_envelopes}
+use Rattle.office_machine.proofs.FateLaws.FatesHold.{FatesStand, HaveFates, Keeps, given, still_held, securities_keep}
 use Rattle.office_machine.proofs.FateLaws.FatesChanged.{kept_by_change}
 use Rattle.office_machine.proofs.FateLaws.States.{map_same, notices_put, same_id_key, sealed_state, map_map}
 
@@ -88,7 +88,7 @@ module _ (readings : Readings) (name : List ℕ) (xs : List Given) (t : Tables) 
         (λ r e. refl) receive
 
     envelopes_are : (r : ℕ) → envelope_at r after ≡ option_map (changed test open_row) (envelope_at r t)
-    envelopes_are r = row_at-changed nat_cmp_total nat_cmp-IsAntisymmetric envelope_key open_row (λ e. refl) test t.envelopes r kept.order.0
+    envelopes_are r = row_at-changed nat_cmp_total nat_cmp-IsAntisymmetric envelope_key open_row (λ e. refl) test t.envelopes r kept.order.envelopes
 
     seen_is : seen after ≡ after_change c (seen t)
     seen_is =
@@ -113,7 +113,7 @@ module _ (readings : Readings) (name : List ℕ) (xs : List Given) (t : Tables) 
     kept_by envelope.Returned b = refl
     kept_by envelope.Opened b = refl
 
-    opened_kept : FatesStand readings (x ∷ xs) after
+    opened_kept : HaveFates readings (x ∷ xs) after
     opened_kept =
         kept_by_change readings xs x t after c kept
         (fair_opening (seen t) name test (λ r e. open_row e) notice_to sealed_test all_test (λ r e. refl) (λ r e. refl) (λ r e. refl) (λ r e. refl) receive)
@@ -140,16 +140,13 @@ module _ (readings : Readings) (name : List ℕ) (xs : List Given) (t : Tables) 
           no_seal = λ r at none. none;
           security_goes = λ s w a named at came_is is. still_held w.state;
         })
-        kept.lines
-        (order-puts (puts.Notice (opened_notice T n) ∷ clock_put t.clock T ∷ []) (record t { envelopes = rows_put nat_cmp envelope_key t.envelopes opened_rows })
-        (subst (λ (u : Tables). Rattle.office_machine.proofs.FateLaws.Seen.AreInOrder u) (after_envelopes open_row (filter test t.envelopes) t) (order-puts (map (λ e. puts.Envelope (open_row e)) (filter test t.envelopes)) t kept.order)))
 
   by_notice : (o : Option NoticeRow) → notice_at name t ≡ o → first_of (open_tests (record { notice = o; clock = t.clock }) T) ≡ None
-      → FatesStand readings (x ∷ xs) (after_puts (open_puts readings.read (record { notice = o; clock = t.clock }) T (sealed_tenders name t)) t)
+      → HaveFates readings (x ∷ xs) (after_puts (open_puts readings.read (record { notice = o; clock = t.clock }) T (sealed_tenders name t)) t)
   by_notice None found allowed =
       let passes : AllByRecursion (λ (test : Bool × Refusal). test.0 ≡ false) (open_tests (record { notice = None; clock = t.clock }) T) = none_holds (open_tests (record { notice = None; clock = t.clock }) T) allowed in
       let no : true ≡ false = passes.0 in cc
-  by_notice (Some n) found allowed = subst (FatesStand readings (x ∷ xs)) (sym (after_is n found)) (opened_kept n found)
+  by_notice (Some n) found allowed = subst (HaveFates readings (x ∷ xs)) (sym (after_is n found)) (opened_kept n found)
 
 pub open_keeps : (readings : Readings) (notice : List ℕ) → Keeps readings (Open notice)
 open_keeps readings notice xs t m caller kept _ allowed = by_notice readings notice xs t m caller kept (notice_at notice t) refl allowed

@@ -33,8 +33,8 @@ use Rattle.office_machine.proofs.FateLaws.Views.{View, IsSound, IsSecured, Envel
 use Rattle.office_machine.proofs.FateLaws.Added.{added, sound_envelope, sound_security}
 use Rattle.office_machine.proofs.FateLaws.Matched.{EnvelopesMatch, EnvelopeStands, SecuritiesMatch, SecurityStands, named_in, same_itself, envelopes_received, securities_added}
 use Rattle.office_machine.proofs.FateLaws.Steps.{both_true}
-use Rattle.office_machine.proofs.FateLaws.Seen.{seen, alike, lot_state, notice_state, order-puts}
-use Rattle.office_machine.proofs.FateLaws.FatesHold.{FatesStand, Keeps, given, fate_goes, security_goes, still_sealed, still_held, all_keep}
+use Rattle.office_machine.proofs.FateLaws.Seen.{seen, alike, lot_state, notice_state}
+use Rattle.office_machine.proofs.FateLaws.FatesHold.{FatesStand, HaveFates, Keeps, given, fate_goes, security_goes, still_sealed, still_held, all_keep}
 use Rattle.office_machine.proofs.FateLaws.States.{map_same, receiving_state}
 use Rattle.office_machine.proofs.FateLaws.NextReceipt.{none_fate, none_security, came_other, came_here, no_envelope_yet, nothing_yet, no_security_yet, securities_stay}
 
@@ -225,12 +225,11 @@ module _ (readings : Readings) (name lot_name : List ℕ) (bytes : List ℕ) (xs
       (envelopes_are : (r : ℕ) → envelope_at r u ≡ added next (row None b) (λ r. envelope_at r t) r)
       (seals_are : (r : ℕ) → seal_at r u ≡ cond b (cond (eq_by_cmp nat_cmp r next) (Some kept_seal) (seal_at r t)) (seal_at r t))
       (rest : seen u ≡ record (seen t) { envelope_at = λ r. envelope_at r u }) (receipts_are : u.clock.receipts ≡ next)
-      (securities_same : u.securities ≡ t.securities)
-      (lines : Rattle.office_machine.proofs.FateLaws.Seen.OnLines u.lines u.lots) (order : Rattle.office_machine.proofs.FateLaws.Seen.AreInOrder u) where
+      (securities_same : u.securities ≡ t.securities) where
     no_number : {A : Type 0} (s : ℕ) → (let o : Option ℕ = None in o) ≡ Some s → A
     no_number s h = absurd (let no : (let o : Option ℕ = None in o) ≡ Some s = h in cc)
 
-    unnamed_kept : FatesStand readings (given_present None ∷ xs) u
+    unnamed_kept : HaveFates readings (given_present None ∷ xs) u
     unnamed_kept = record {
       sound =
           subst IsSound (ap (λ (E : ℕ → Option EnvelopeRow). record (seen t) { envelope_at = E }) (sym (λ i r. envelopes_are r i)) ∙ sym rest)
@@ -241,17 +240,15 @@ module _ (readings : Readings) (name lot_name : List ℕ) (bytes : List ℕ) (xs
       named =
           subst (λ (rows : List SecurityRow). SecuritiesMatch (received_at (given_present None ∷ xs)) (fate_of_security (given_present None ∷ xs)) (λ s. Rattle.office_base.specs.Tables.find_security rows s)) (sym securities_same)
           (securities_stay readings xs t kept (given_present None) refl (λ s. refl));
-      lines = lines;
-      order = order;
     }
 
   unnamed : (b : Bool) → holds_of (is_in_time (max m t.clock.moment)) (notice_at name t) ≡ b
-      → FatesStand readings (given_present None ∷ xs) (after_puts (ps None b) t)
+      → HaveFates readings (given_present None ∷ xs) (after_puts (ps None b) t)
   unnamed true b_is =
-      unnamed_kept true b_is (after_puts (ps None true) t) (envelopes_put None true) seals_put refl refl refl kept.lines (order-puts (ps None true) t kept.order)
+      unnamed_kept true b_is (after_puts (ps None true) t) (envelopes_put None true) seals_put refl refl refl
   unnamed false b_is =
       unnamed_kept false b_is (after_puts (ps None false) t) (envelopes_put None false)
-      (λ r. refl) refl refl refl kept.lines (order-puts (ps None false) t kept.order)
+      (λ r. refl) refl refl refl
 
   -- with a security
   module _ (named : NamedSecurity) (b : Bool) (b_is : holds_of (is_in_time (max m t.clock.moment)) (notice_at name t) ≡ b) (u : Tables)
@@ -259,8 +256,7 @@ module _ (readings : Readings) (name lot_name : List ℕ) (bytes : List ℕ) (xs
       (seals_are : (r : ℕ) → seal_at r u ≡ cond b (cond (eq_by_cmp nat_cmp r next) (Some kept_seal) (seal_at r t)) (seal_at r t))
       (securities_are : (s : ℕ) → security_at s u ≡ added next (security_row t.clock caller name lot_name b named) (λ s. security_at s t) s)
       (rest : seen u ≡ record (seen t) { envelope_at = λ r. envelope_at r u; security_at = λ s. security_at s u })
-      (receipts_are : u.clock.receipts ≡ next)
-      (lines : Rattle.office_machine.proofs.FateLaws.Seen.OnLines u.lines u.lots) (order : Rattle.office_machine.proofs.FateLaws.Seen.AreInOrder u) where
+      (receipts_are : u.clock.receipts ≡ next) where
     abbrev w : SecurityRow
     w = security_row t.clock caller name lot_name b named
 
@@ -324,7 +320,7 @@ module _ (readings : Readings) (name lot_name : List ℕ) (bytes : List ℕ) (xs
         record { none_named = none; no_fate = none_security (fate_of_security xs s) (received_at (given_present (Some named) ∷ xs) s) security.Held was.no_fate none })
         security_stands
 
-    named_kept : FatesStand readings (given_present (Some named) ∷ xs) u
+    named_kept : HaveFates readings (given_present (Some named) ∷ xs) u
     named_kept = record {
       sound =
           subst IsSound
@@ -337,8 +333,6 @@ module _ (readings : Readings) (name lot_name : List ℕ) (bytes : List ℕ) (xs
           (tenders_are readings name lot_name bytes xs t m caller kept (Some named) b b_is notice_there lot_there unended u envelopes_are seals_are);
       named =
           subst (SecuritiesMatch (received_at (given_present (Some named) ∷ xs)) (fate_of_security (given_present (Some named) ∷ xs))) (sym (λ i s. securities_are s i)) securities_after;
-      lines = lines;
-      order = order;
     }
 
   securities_put : (named : NamedSecurity) (b : Bool) (s : ℕ)
@@ -347,14 +341,14 @@ module _ (readings : Readings) (name lot_name : List ℕ) (bytes : List ℕ) (xs
   securities_put named b s = row_at-row_put nat_cmp_total security_key t.securities (security_row t.clock caller name lot_name b named) s
 
   with_security : (named : NamedSecurity) (b : Bool) → holds_of (is_in_time (max m t.clock.moment)) (notice_at name t) ≡ b
-      → FatesStand readings (given_present (Some named) ∷ xs) (after_puts (ps (Some named) b) t)
+      → HaveFates readings (given_present (Some named) ∷ xs) (after_puts (ps (Some named) b) t)
   with_security named true b_is =
-      named_kept named true b_is (after_puts (ps (Some named) true) t) (envelopes_put (Some named) true) seals_put (securities_put named true) refl refl kept.lines (order-puts (ps (Some named) true) t kept.order)
+      named_kept named true b_is (after_puts (ps (Some named) true) t) (envelopes_put (Some named) true) seals_put (securities_put named true) refl refl
   with_security named false b_is =
-      named_kept named false b_is (after_puts (ps (Some named) false) t) (envelopes_put (Some named) false) (λ r. refl) (securities_put named false) refl refl kept.lines (order-puts (ps (Some named) false) t kept.order)
+      named_kept named false b_is (after_puts (ps (Some named) false) t) (envelopes_put (Some named) false) (λ r. refl) (securities_put named false) refl refl
 
   presented_kept : (sec : Option NamedSecurity) (b : Bool) → holds_of (is_in_time (max m t.clock.moment)) (notice_at name t) ≡ b
-      → FatesStand readings (given_present sec ∷ xs) (after_puts (ps sec b) t)
+      → HaveFates readings (given_present sec ∷ xs) (after_puts (ps sec b) t)
   presented_kept None b b_is = unnamed b b_is
   presented_kept (Some named) b b_is = with_security named b b_is
 

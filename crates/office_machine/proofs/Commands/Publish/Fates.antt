@@ -1,7 +1,7 @@
 -- A publication keeps the fates.
 use Rattle.std.specs.Prelude.{◌≡◌, ℕ, ◌⊎◌, Bool, true, false, cond, List, [], ◌∷◌, ◌++◌, map, Option, Some, None, option_map, is_some, max}
 use Rattle.std.proofs.Common.{refl, sym, ap, ◌∙◌, subst, inl, inr}
-use Rattle.std.specs.List.{AllByRecursion, list_any}
+use Rattle.std.specs.List.{AllByRecursion}
 use Rattle.std.specs.Cmp.{IsTotalOrder}
 use Rattle.std.specs.Cmp.Lexicographic.{nat_list_cmp_total}
 use Rattle.std.specs.Ordering.{is_eq, eq_by_cmp}
@@ -15,7 +15,6 @@ use Rattle.office_values.specs.declared.refusal.Refusal.{Refusal}
 use Rattle.office_commands.specs.declared.notice.LateWithdrawal.{LateWithdrawal}
 use Rattle.office_commands.specs.declared.notice.LateWithdrawal.TheVariants.{Refused, Forfeits}
 use Rattle.office_base.specs.Rows.{row_at, row_put}
-use Rattle.office_base.specs.declared.records.LineRow.{LineRow}
 use Rattle.office_base.specs.declared.records.LotRow.{LotRow}
 use Rattle.office_base.specs.declared.records.LotState.TheVariants as lot
 use Rattle.office_base.specs.declared.records.LotState.{LotState}
@@ -23,19 +22,19 @@ use Rattle.office_base.specs.declared.records.NoticeState.TheVariants as notice
 use Rattle.office_base.specs.declared.records.NoticeState.{NoticeState}
 use Rattle.office_base.specs.declared.puts.Put.TheVariants as puts
 use Rattle.office_base.specs.declared.puts.Put.{Put}
-use Rattle.tender_core.specs.Rules.Publish.{is_on_no_line, reserving_line, reserving_line_put, lot_row, new_lot_put, notice_row, notice_put, publish_parts, late_puts, publish_puts, publish_rows, publish_tests}
-use Rattle.office_base.specs.Tables.{Tables, lot_cmp, line_key, lot_key, notice_key, find_line, put_notice, envelope_at, seal_at, security_at, lot_at, notice_at, after_puts}
+use Rattle.tender_core.specs.Rules.Publish.{reserving_line, reserving_line_put, lot_row, new_lot_put, notice_row, notice_put, publish_parts, late_puts, publish_puts, publish_rows, publish_tests}
+use Rattle.office_base.specs.Tables.{Tables, lot_cmp, line_key, lot_key, notice_key, put_notice, envelope_at, seal_at, security_at, lot_at, notice_at, after_puts}
 use Rattle.office_machine.specs.Machine.{Given}
 use Rattle.office_machine.specs.Readings.{Readings}
 use Rattle.office_base.proofs.Orders.{lots_total, same_key}
 use Rattle.office_base.proofs.ExactKeys.{lots_exact, ids_exact, equal_keys}
-use Rattle.office_machine.proofs.Passed.{none_holds, neither, not_false}
+use Rattle.office_machine.proofs.Passed.{none_holds}
 use Rattle.office_base.proofs.RowLaws.{row_at-row_put}
 use Rattle.office_machine.proofs.Rows.RowsChanged.{rows_put}
 use Rattle.office_machine.proofs.FateLaws.Added.{sound_published}
-use Rattle.office_machine.proofs.FateLaws.Seen.{seen, lot_state, notice_state, LotFits, AreInOrder, OnLines, lines-puts, order-puts, after-append, after_lines, after_lots, IsQuiet}
-use Rattle.office_machine.proofs.FateLaws.FatesHold.{FatesStand, Keeps, given, tenders_same, named_same}
-use Rattle.office_machine.proofs.FateLaws.QuietFates.{all_append, all_of_map, kept_after}
+use Rattle.office_machine.proofs.FateLaws.Seen.{seen, lot_state, notice_state, after-append, after_lines, after_lots, IsQuiet}
+use Rattle.office_machine.proofs.FateLaws.FatesHold.{FatesStand, HaveFates, Keeps, given, tenders_same, named_same}
+use Rattle.office_machine.proofs.FateLaws.QuietFates.{kept_after}
 
 -- a property of each row that is put at a key, and of the earlier row if none is put there, is a property of the found row
 module _ {K X : Type 0} {R : K → K → Ordering} (o : IsTotalOrder R) (key : X → K) where
@@ -50,19 +49,12 @@ module _ {K X : Type 0} {R : K → K → Ordering} (o : IsTotalOrder R) (key : X
       found_after P q rs (row_put R key xs r) here.1
       (subst P (sym (row_at-row_put o key xs r q)) (one_put P r (row_at R key xs q) (eq_by_cmp R q (key r)) here.0 there))
 
-all_fit : (lines : List LineRow) (name : List ℕ) (lots : List NewLot) → list_any (is_on_no_line lines) lots ≡ false
-    → AllByRecursion (LotFits lines) (map (new_lot_put name) lots)
-all_fit lines name [] none = tt
-all_fit lines name (l ∷ lots) none =
-    let each = neither (is_on_no_line lines l) (list_any (is_on_no_line lines) lots) none in
-    (not_false (is_some (find_line lines l.line)) each.0, all_fit lines name lots each.1)
-
 is_none : {X : Type 0} (o : Option X) → is_some o ≡ false → o ≡ None
 is_none None h = refl
 is_none (Some y) h = cc
 
 module _ (readings : Readings) (name : List ℕ) (content : NewNotice) (xs : List Given) (t : Tables) (m : ℕ) (caller : Caller) (kept : FatesStand readings xs t)
-    (on_lines : list_any (is_on_no_line t.lines) content.lots ≡ false) (absent : is_some (notice_at name t) ≡ false) where
+    (absent : is_some (notice_at name t) ≡ false) where
   abbrev T : ℕ
   T = max m t.clock.moment
 
@@ -145,37 +137,27 @@ module _ (readings : Readings) (name : List ℕ) (content : NewNotice) (xs : Lis
       found_after lots_total lot_key
       (λ o. (k.0 ≡ name) ⊎ (option_map lot_state o ≡ (seen t).lot_at k)) k new_lots t.lots (lots_each k content.lots) (inr refl)
 
-  fit : AllByRecursion (LotFits t.lines) ps
-  fit =
-      all_append (LotFits t.lines) (map (reserving_line_put t.lines content.lots) content.lots ++ map (new_lot_put name) content.lots) last_puts
-      (all_append (LotFits t.lines) (map (reserving_line_put t.lines content.lots) content.lots) (map (new_lot_put name) content.lots)
-      (all_of_map (LotFits t.lines) (reserving_line_put t.lines content.lots) content.lots (λ l. tt))
-      (all_fit t.lines name content.lots on_lines))
-      (tt, (tt, tt))
-
-  after_kept : FatesStand readings (x ∷ xs) after
+  after_kept : HaveFates readings (x ∷ xs) after
   after_kept = record {
     sound = sound_published name N L (seen t) kept.sound no_notice here elsewhere lots_here lots_elsewhere;
     tenders =
         tenders_same readings.digest xs x refl t.clock.receipts (λ r. envelope_at r t) (λ r. envelope_at r t) (λ r. seal_at r t)
         (λ r. seal_at r t) kept.tenders (λ r. refl) (λ r. refl) (λ r. refl);
     named = named_same readings.digest xs x refl (λ s. security_at s t) (λ s. security_at s t) kept.named (λ s. refl) (λ s. refl);
-    lines = subst (λ (u : Tables). OnLines u.lines u.lots) after_is (lines-puts ps t kept.lines fit);
-    order = subst (λ (u : Tables). AreInOrder u) after_is (order-puts ps t kept.order);
   }
 
   late_quiet : (late : LateWithdrawal) (u : Tables) → AllByRecursion (IsQuiet (seen u) u.clock.receipts) (late_puts name late)
   late_quiet Refused u = tt
   late_quiet Forfeits u = (tt, tt)
 
-  published_kept : FatesStand readings (x ∷ xs) (after_puts (publish_puts (record { notice = None; lines = t.lines; clock = t.clock }) T name content) t)
+  published_kept : HaveFates readings (x ∷ xs) (after_puts (publish_puts (record { notice = None; lines = t.lines; clock = t.clock }) T name content) t)
   published_kept =
-      subst (FatesStand readings (x ∷ xs)) (sym (after-append ps (late_puts name content.late_withdrawal) t))
+      subst (HaveFates readings (x ∷ xs)) (sym (after-append ps (late_puts name content.late_withdrawal) t))
       (kept_after readings (x ∷ xs) (late_puts name content.late_withdrawal) (after_puts ps t) (late_quiet content.late_withdrawal (after_puts ps t))
-      (subst (FatesStand readings (x ∷ xs)) (sym after_is) after_kept))
+      (subst (HaveFates readings (x ∷ xs)) (sym after_is) after_kept))
 
 pub publish_keeps : (readings : Readings) (notice : List ℕ) (content : NewNotice) → Keeps readings (Publish notice content)
 publish_keeps readings name content xs t m caller kept _ allowed =
     let tests = publish_tests (publish_rows t name) (max m t.clock.moment) content in
     let passes : AllByRecursion (λ (test : Bool × Refusal). test.0 ≡ false) tests = none_holds tests allowed in
-    published_kept readings name content xs t m caller kept passes.0 passes.1.0
+    published_kept readings name content xs t m caller kept passes.1.0

@@ -19,7 +19,7 @@ use Rattle.office_base.specs.declared.records.LotState.TheVariants as lot
 use Rattle.office_base.specs.declared.puts.Put.TheVariants as puts
 use Rattle.office_base.specs.declared.puts.Put.{Put}
 use Rattle.office_base.specs.Rules.{first_of}
-use Rattle.office_base.specs.Transitions.{clock_put, with_next_release, is_held_security, security_returned, returned, put_if}
+use Rattle.office_base.specs.Transitions.{clock_put, with_next_release, is_held_security, returned, put_if}
 use Rattle.award_core.specs.Rules.Sign.{signed_award, contracted_lot, contract_row, tenderer_in, sign_parts, performance_put, sign_tests, sign_puts}
 use Rattle.office_base.specs.Tables.{Tables, award_key, security_key, award_at, lot_at, notice_at, envelope_at, securities_of_lot, after_puts}
 use Rattle.office_base.specs.Parents.{notice_of_award, lot_of_award, envelope_of_award, securities_of_award}
@@ -32,11 +32,11 @@ use Rattle.office_base.proofs.RowLaws.Keyed.{found_key}
 use Rattle.office_machine.proofs.FateLaws.Views.{AwardFits}
 use Rattle.office_machine.proofs.FateLaws.Matched.{same_itself}
 use Rattle.office_machine.proofs.FateLaws.Steps.{choose, cond_keeps}
-use Rattle.office_machine.proofs.FateLaws.Seen.{seen, notices-same, LotFits, AreInOrder, OnLines, lines-puts, order-puts, after_securities, IsQuiet, after-append}
-use Rattle.office_machine.proofs.FateLaws.FatesHold.{FatesStand, Keeps, given}
-use Rattle.office_machine.proofs.FateLaws.QuietFates.{notice_stands, all_of_map, kept_after}
+use Rattle.office_machine.proofs.FateLaws.Seen.{seen, notices-same, after_securities, IsQuiet, after-append}
+use Rattle.office_machine.proofs.FateLaws.FatesHold.{FatesStand, HaveFates, Keeps, given}
+use Rattle.office_machine.proofs.FateLaws.QuietFates.{notice_stands, kept_after}
 use Rattle.office_machine.proofs.FateLaws.States.{lots_put, active_state}
-use Rattle.office_machine.proofs.Commands.Fail.Fates.{rows_there, on_line}
+use Rattle.office_machine.proofs.Commands.Fail.Fates.{rows_there}
 use Rattle.office_machine.proofs.FateLaws.LotClosed.{closing_kept, securities_go_back}
 use Rattle.office_machine.proofs.Rows.Keyed as keyed
 
@@ -84,11 +84,7 @@ module _ (readings : Readings) (number : ℕ) (named : Option NamedSecurity) (xs
     after_is : after_puts ps t ≡ after
     after_is = after_securities returned (filter is_held_security (securities_of_lot w.notice w.lot t)) first
 
-    fit : AllByRecursion (LotFits t.lines) ps
-    fit =
-        (tt, (on_line readings xs t kept (w.notice, w.lot) l lot_found, (tt, (tt, (tt, all_of_map (LotFits t.lines) security_returned (filter is_held_security (securities_of_lot w.notice w.lot t)) (λ s. tt))))))
-
-    after_kept : FatesStand readings (x ∷ xs) after
+    after_kept : HaveFates readings (x ∷ xs) after
     after_kept =
         closing_kept readings xs x t after kept w.notice w.lot lot.Contracted refl award_to
         (λ h r. let no : lot.Awarded ≡ lot.Undecided = let both : Some lot.Awarded ≡ Some lot.Undecided = sym fits.awarded ∙ h in cc in cc)
@@ -107,28 +103,26 @@ module _ (readings : Readings) (number : ℕ) (named : Option NamedSecurity) (xs
         (λ k. lots_put t.lots (w.notice, w.lot) k l contracted_lot (λ s. lot.Contracted) (λ l. refl) (λ l. refl) lot_found)
         (notices-same t.notices (with_next_release n) (notice_stands t w.notice n notice_found))
         refl
-        (subst (λ (u : Tables). OnLines u.lines u.lots) after_is (lines-puts ps t kept.lines fit))
-        (subst (λ (u : Tables). AreInOrder u) after_is (order-puts ps t kept.order))
 
     performance_quiet : (named : Option NamedSecurity) (u : Tables) → AllByRecursion (IsQuiet (seen u) u.clock.receipts) (put_if (performance_put w) named)
     performance_quiet None u = tt
     performance_quiet (Some n) u = (tt, tt)
 
-    signed_kept : FatesStand readings (x ∷ xs) (after_puts (ps ++ put_if (performance_put w) named) t)
+    signed_kept : HaveFates readings (x ∷ xs) (after_puts (ps ++ put_if (performance_put w) named) t)
     signed_kept =
-        subst (FatesStand readings (x ∷ xs)) (sym (after-append ps (put_if (performance_put w) named) t))
-        (kept_after readings (x ∷ xs) (put_if (performance_put w) named) (after_puts ps t) (performance_quiet named (after_puts ps t)) (subst (FatesStand readings (x ∷ xs)) (sym after_is) after_kept))
+        subst (HaveFates readings (x ∷ xs)) (sym (after-append ps (put_if (performance_put w) named) t))
+        (kept_after readings (x ∷ xs) (put_if (performance_put w) named) (after_puts ps t) (performance_quiet named (after_puts ps t)) (subst (HaveFates readings (x ∷ xs)) (sym after_is) after_kept))
 
-  sign_kept : FatesStand readings (x ∷ xs) (after_puts (sign_puts (record { award = Some w; notice = notice_at w.notice t; lot = (lot_at (w.notice, w.lot) t); envelope = envelope_at w.receipt t; securities = securities_of_lot w.notice w.lot t; clock = t.clock }) T named) t)
+  sign_kept : HaveFates readings (x ∷ xs) (after_puts (sign_puts (record { award = Some w; notice = notice_at w.notice t; lot = (lot_at (w.notice, w.lot) t); envelope = envelope_at w.receipt t; securities = securities_of_lot w.notice w.lot t; clock = t.clock }) T named) t)
   sign_kept =
       rows_there readings number xs t m caller kept w found active
-      (λ n l o. FatesStand readings (x ∷ xs) (after_puts (sign_puts (record { award = Some w; notice = n; lot = l; envelope = o; securities = securities_of_lot w.notice w.lot t; clock = t.clock }) T named) t))
+      (λ n l o. HaveFates readings (x ∷ xs) (after_puts (sign_puts (record { award = Some w; notice = n; lot = l; envelope = o; securities = securities_of_lot w.notice w.lot t; clock = t.clock }) T named) t))
       (λ n n_is l l_is. signed_kept n n_is l l_is fits.tender)
 
 sign_by : (readings : Readings) (number : ℕ) (named : Option NamedSecurity) (xs : List Given) (t : Tables) (m : ℕ) (caller : Caller) (kept : FatesStand readings xs t) (o : Option AwardRow)
     → award_at number t ≡ o
     → first_of (sign_tests (record { award = o; notice = notice_of_award o t; lot = None; envelope = None; securities = []; clock = t.clock }) (max m t.clock.moment) named) ≡ None
-    → FatesStand readings (given t m caller (Sign number named) ∷ xs)
+    → HaveFates readings (given t m caller (Sign number named) ∷ xs)
     (after_puts (sign_puts (record { award = o; notice = notice_of_award o t; lot = lot_of_award o t; envelope = envelope_of_award o t; securities = securities_of_award o t; clock = t.clock }) (max m t.clock.moment) named) t)
 sign_by readings number named xs t m caller kept None found allowed =
     let passes : AllByRecursion (λ (test : Bool × Refusal). test.0 ≡ false) (sign_tests (record { award = None; notice = None; lot = None; envelope = None; securities = []; clock = t.clock }) (max m t.clock.moment) named) = none_holds (sign_tests (record { award = None; notice = None; lot = None; envelope = None; securities = []; clock = t.clock }) (max m t.clock.moment) named) allowed in

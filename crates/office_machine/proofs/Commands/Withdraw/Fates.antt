@@ -16,7 +16,6 @@ use Rattle.office_base.specs.declared.records.SecurityState.{SecurityState}
 use Rattle.office_base.specs.declared.records.LateRow.{LateRow}
 use Rattle.office_base.specs.declared.records.EnvelopeState.TheVariants as envelope
 use Rattle.office_base.specs.declared.records.SecurityState.TheVariants as security
-use Rattle.office_base.specs.declared.puts.Put.TheVariants as puts
 use Rattle.office_base.specs.States.{is_sealed, is_held}
 use Rattle.office_base.specs.Rules.{first_of}
 use Rattle.office_base.specs.Transitions.{is_past_deadline, passed_over, settled}
@@ -35,8 +34,8 @@ use Rattle.office_machine.proofs.FateLaws.Views.{EnvelopeFits, Change, IsFair, a
 use Rattle.office_machine.proofs.FateLaws.Added.{equal_numbers}
 use Rattle.office_machine.proofs.FateLaws.Matched.{EnvelopeStands, EnvelopeKeeps}
 use Rattle.office_machine.proofs.FateLaws.Steps.{cond_keeps, settled_keep, settled_goes, taking_back, fair_taking_back, fair_withdrawal}
-use Rattle.office_machine.proofs.FateLaws.Seen.{seen, alike, LotFits, lines-puts, order-puts}
-use Rattle.office_machine.proofs.FateLaws.FatesHold.{FatesStand, Keeps, given, still_sealed}
+use Rattle.office_machine.proofs.FateLaws.Seen.{seen, alike}
+use Rattle.office_machine.proofs.FateLaws.FatesHold.{FatesStand, HaveFates, Keeps, given, still_sealed}
 use Rattle.office_machine.proofs.FateLaws.FatesChanged.{kept_by_change, is_sealed_state, securities_put, securities_left, effective, not_effective}
 use Rattle.office_machine.proofs.Rows.Keyed as keyed
 
@@ -108,7 +107,6 @@ module _ (readings : Readings) (receipt : ℕ) (xs : List Given) (t : Tables) (m
         seals_are : (after so).seals ≡ (after None).seals
         rest : seen (after so) ≡ record (seen t) { envelope_at = λ r. envelope_at r (after so); security_at = λ s. security_at s (after so) }
         receipts_are : (after so).clock.receipts ≡ t.clock.receipts
-        fit : AllByRecursion (LotFits t.lines) (taken_back_puts t.clock T e so late)
 
       module _ (own_still : (change e).receipt ≡ e.receipt)
           (keep : EnvelopeKeeps readings.digest c.envelope_to)
@@ -120,7 +118,7 @@ module _ (readings : Readings) (receipt : ℕ) (xs : List Given) (t : Tables) (m
           (no_seal : (r : ℕ) → seal_at r t ≡ None → seal_at r (after None) ≡ None) where
         taken_kept : (so : Option SecurityRow) → Puts so
             → ((s : ℕ) → find_security (settled_in so) s ≡ option_map (λ w. cond (has_number s e.security) (settled state w) w) (security_at s t))
-            → FatesStand readings (x ∷ xs) (after so)
+            → HaveFates readings (x ∷ xs) (after so)
         taken_kept so puts settles =
             kept_by_change readings xs x t (after so) c kept fair
             (record {
@@ -141,16 +139,14 @@ module _ (readings : Readings) (receipt : ℕ) (xs : List Given) (t : Tables) (m
               no_seal = λ r at none. ap (λ rows. find_seal rows r) puts.seals_are ∙ no_seal r none;
               security_goes = λ s w a named at came_is is. security_goes state decided s w;
             })
-            (lines-puts (taken_back_puts t.clock T e so late) t kept.lines puts.fit)
-            (order-puts (taken_back_puts t.clock T e so late) t kept.order)
 
-        by_security : ((so : Option SecurityRow) → Puts so) → (sec : Option ℕ) → e.security ≡ sec → FatesStand readings (x ∷ xs) (after (option_and_then (λ n. security_at n t) sec))
+        by_security : ((so : Option SecurityRow) → Puts so) → (sec : Option ℕ) → e.security ≡ sec → HaveFates readings (x ∷ xs) (after (option_and_then (λ n. security_at n t) sec))
         by_security puts None none =
             taken_kept None (puts None)
             (λ s. securities_left (settled state) t.securities s ∙ ap (λ o. option_map (λ w. cond (has_number s o) (settled state w) w) (security_at s t)) (sym none))
         by_security puts (Some n) carried =
             let is = fits.secured n carried in
-            subst (λ so. FatesStand readings (x ∷ xs) (after so)) (sym is.found)
+            subst (λ so. HaveFates readings (x ∷ xs) (after so)) (sym is.found)
             (taken_kept (Some is.row) (puts (Some is.row))
             (λ s. securities_put (settled state) t.securities n is.row is.found refl s ∙ ap (λ o. option_map (λ w. cond (has_number s o) (settled state w) w) (security_at s t)) (sym carried)))
 
@@ -177,7 +173,7 @@ module _ (readings : Readings) (receipt : ℕ) (xs : List Given) (t : Tables) (m
 
       seal_is : (r : ℕ) → seal_at r (after false withdrawn security.Returned None) ≡ cond (eq_by_cmp nat_cmp r receipt) None (seal_at r t)
       seal_is r =
-          row_at-row_drop keyed.seals t.seals e.receipt r kept.order.1
+          row_at-row_drop keyed.seals t.seals e.receipt r kept.order.seals
           ∙ ap (λ k. cond (eq_by_cmp nat_cmp r k) None (seal_at r t)) own
 
       dropped : (b : Bool) (d : EnvelopeRow) (a : Reception) (r : ℕ) → EnvelopeIs readings.digest r a (fate_of_tender xs r) d (seal_at r t)
@@ -189,7 +185,7 @@ module _ (readings : Readings) (receipt : ℕ) (xs : List Given) (t : Tables) (m
       never true o none = refl
       never false o none = none
 
-      early_kept : FatesStand readings (x ∷ xs) (after false withdrawn security.Returned (option_and_then (λ n. security_at n t) e.security))
+      early_kept : HaveFates readings (x ∷ xs) (after false withdrawn security.Returned (option_and_then (λ n. security_at n t) e.security))
       early_kept =
           by_security false withdrawn security.Returned refl
           (tenders_keep readings.digest receipt withdrawn (λ e. refl) (λ e. refl) (λ e. refl) (λ e. refl) (λ e. refl) (λ e. refl) (λ e. refl))
@@ -201,8 +197,8 @@ module _ (readings : Readings) (receipt : ℕ) (xs : List Given) (t : Tables) (m
           puts e.security refl
         where
           puts : (so : Option SecurityRow) → Puts false withdrawn security.Returned so
-          puts None = record { envelopes_are = refl; securities_are = refl; seals_are = refl; rest = refl; receipts_are = refl; fit = (tt, (tt, (tt, tt))) }
-          puts (Some w) = record { envelopes_are = refl; securities_are = refl; seals_are = refl; rest = refl; receipts_are = refl; fit = (tt, (tt, (tt, (tt, tt)))) }
+          puts None = record { envelopes_are = refl; securities_are = refl; seals_are = refl; rest = refl; receipts_are = refl }
+          puts (Some w) = record { envelopes_are = refl; securities_are = refl; seals_are = refl; rest = refl; receipts_are = refl }
 
     -- a withdrawal from the deadline on leaves the tender's state and its seal
     module _ (is_past : holds_of (is_past_deadline T) (notice_at e.notice t) ≡ true) where
@@ -221,7 +217,7 @@ module _ (readings : Readings) (receipt : ℕ) (xs : List Given) (t : Tables) (m
               still_sealed d.state ∙ sym (ap (λ b. cond (is_sealed d.state) (cond b envelope.Withdrawn envelope.Sealed) d.state) no)
           by false other = still_sealed d.state
 
-      late_kept : FatesStand readings (x ∷ xs) (after true passed_over security.Forfeited (option_and_then (λ n. security_at n t) e.security))
+      late_kept : HaveFates readings (x ∷ xs) (after true passed_over security.Forfeited (option_and_then (λ n. security_at n t) e.security))
       late_kept =
           by_security true passed_over security.Forfeited refl
           (tenders_keep readings.digest receipt passed_over (λ e. refl) (λ e. refl) (λ e. refl) (λ e. refl) (λ e. refl) (λ e. refl) (λ e. refl))
@@ -233,13 +229,13 @@ module _ (readings : Readings) (receipt : ℕ) (xs : List Given) (t : Tables) (m
           puts e.security refl
         where
           puts : (so : Option SecurityRow) → Puts true passed_over security.Forfeited so
-          puts None = record { envelopes_are = refl; securities_are = refl; seals_are = refl; rest = refl; receipts_are = refl; fit = (tt, (tt, tt)) }
-          puts (Some w) = record { envelopes_are = refl; securities_are = refl; seals_are = refl; rest = refl; receipts_are = refl; fit = (tt, (tt, (tt, tt))) }
+          puts None = record { envelopes_are = refl; securities_are = refl; seals_are = refl; rest = refl; receipts_are = refl }
+          puts (Some w) = record { envelopes_are = refl; securities_are = refl; seals_are = refl; rest = refl; receipts_are = refl }
 
     -- a withdrawal is early or late as the deadline and the notice say
     taken_back_kept : (late : Option LateRow) (past : Bool) → holds_of (is_past_deadline T) (notice_at e.notice t) ≡ past → (not (is_some late) && past) ≡ false
         → ((is_some late && past) ≡ false → e.state ≡ envelope.Sealed)
-        → FatesStand readings (x ∷ xs) (after_puts (taken_back_puts t.clock T e (option_and_then (λ n. security_at n t) e.security) (is_some late && past)) t)
+        → HaveFates readings (x ∷ xs) (after_puts (taken_back_puts t.clock T e (option_and_then (λ n. security_at n t) e.security) (is_some late && past)) t)
     taken_back_kept (Some late) true is allowed sealed = late_kept is
     taken_back_kept (Some late) false is allowed sealed = early_kept is (sealed refl)
     taken_back_kept None true is allowed sealed = let no : true ≡ false = allowed in absurd cc
@@ -247,7 +243,7 @@ module _ (readings : Readings) (receipt : ℕ) (xs : List Given) (t : Tables) (m
 
   by_envelope : (o : Option EnvelopeRow) → envelope_at receipt t ≡ o
       → first_of (withdraw_tests (record { envelope = o; notice = notice_of_envelope o t; lot = lot_of_envelope o t; late = late_of_envelope o t; security = None; clock = t.clock }) T caller) ≡ None
-      → FatesStand readings (x ∷ xs) (after_puts (withdraw_puts (record { envelope = o; notice = notice_of_envelope o t; lot = None; late = late_of_envelope o t; security = security_of_envelope o t; clock = t.clock }) T) t)
+      → HaveFates readings (x ∷ xs) (after_puts (withdraw_puts (record { envelope = o; notice = notice_of_envelope o t; lot = None; late = late_of_envelope o t; security = security_of_envelope o t; clock = t.clock }) T) t)
   by_envelope None found allowed =
       let tests = withdraw_tests (record { envelope = None; notice = None; lot = None; late = None; security = None; clock = t.clock }) T caller in
       let passes : AllByRecursion (λ (test : Bool × Refusal). test.0 ≡ false) tests = none_holds tests allowed in

@@ -25,5 +25,6 @@ returns g c =
           (subst (λ (u : Tables). AreSoMany r.notice (r.seq - 1) u) (sym at) many)) c.args.puts.items c.args.text.items is told
           (λ keeps. subst (λ (u : Tables). IsKept u r p) (sym at)
           (kept.1 honest s held released.storable (subst (KeepsReleasesOf r.notice) at (keeps r.notice released.for_notice))))
+          (c.in_ok-publication.ensures.row released.storable)
           c.with_publication.result c.with_publication.ensures.puts c.with_publication.ensures.reply c.with_publication.ensures.none,
     )

@@ -4,7 +4,7 @@ use Rattle.procure_config.specs.declared.fault.ProgramFault.{ProgramFault}
 use Rattle.sqlite_wal.specs.Files.{image_at}
 use Rattle.sqlite.specs.Files.{over_files}
 use Rattle.office_store.specs.SqlMeaning.{sql_meaning}
-use Rattle.procure_programs.proofs.OpenedFiles.{closes, closes_used, kept_served, prints_files}
+use Rattle.procure_programs.proofs.OpenedFiles.{closes, closes_used, half_prints, kept_served, prints_files}
 use Rattle.procure_programs.proofs.StoppedFiles.{closes_half}
 use Rattle.procure_programs.proofs.store.print_from.Goals as goal
 
@@ -38,3 +38,9 @@ returns-in-Ok-close_office-clause-printed g c =
 pub returns-in-Ok-close_office-clause-flushed : goal.returns-in-Ok-close_office-clause-flushed
 returns-in-Ok-close_office-clause-flushed g c =
     subst (λ (r : Result (Unit {0}) ProgramFault). OnOk r (c.print_shelf-shelf.new.output.is_flushed ≡ true)) (sym c.in-Ok-close_office.ensures.worked) c.print_shelf-shelf.ensures.flushed
+
+pub returns-in-Err-close_office-clause-half_text : goal.returns-in-Err-close_office-clause-half_text
+returns-in-Err-close_office-clause-half_text g c =
+    half_prints (image_at g.S.Start) c.args.settings c.args.printout c.in-Err-close_office.store c.args.output.now.contents c.print_shelf-shelf.new.output.contents
+    c.in-Ok.opened.shelf c.print_shelf-shelf.result.0 c.print_shelf-shelf.result.1 c.in-Err-close_office.fault c.in-Ok.ensures.held c.in-Ok.ensures.empty
+    c.print_shelf-shelf.ensures.looks c.in-Err-close_office.ensures.half c.in-Err-close_office.ensures.told

@@ -14,7 +14,7 @@ returns-clause-turns g c = record {
   first = c.new-first.result;
   last = c.in_ok-last.last;
   around = c.new-first.ensures.shelf;
-  empty = c.new-first.ensures.empty;
+  holds = c.new-first.ensures.holds;
   inside = sym c.into_shelf.ensures;
   turns = c.in_ok-last.ensures.turns;
 }

@@ -8,6 +8,7 @@ use Rattle.office_base.specs.declared.records.EnvelopeRow.{EnvelopeRow}
 use Rattle.office_machine.specs.Lacking.{is_lacking}
 use Rattle.office_machine.specs.Machine.{time_of}
 use Rattle.office_machine.specs.Orphans.{award_is_taken}
+use Rattle.office_machine.specs.References.{OfAward, is_named}
 use Rattle.office_plans.proofs.AwardedLots.{same_puts}
 use Rattle.office_plans.proofs.Numbered.{numbered_notice}
 use Rattle.office_plans.proofs.Publishing.{IsTested, four_looks, not_planned, puts_on, refused_on}
@@ -24,10 +25,10 @@ rule asking notice lot = record { clock = λ s. refl; tested = λ s. refl }
 
 -- No award has the next number, as the look-up says.
 is_new : (notice lot : List ℕ) (s : Tables) (rows : AwardRows) → rows ≡ awarded_rows s notice lot → (best : Option EnvelopeRow) → best ≡ winner rows.notice rows.envelopes → (taken : Bool)
-    → taken ≡ (is_some best && is_some (award_at (rows.clock.awards + 1) s)) → taken ≡ false → award_is_taken notice lot s ≡ false
+    → taken ≡ (is_some best && (is_some (award_at (rows.clock.awards + 1) s) || is_named (OfAward (rows.clock.awards + 1)) s)) → taken ≡ false → award_is_taken notice lot s ≡ false
 is_new notice lot s rows are best is taken found none =
-    let by = λ (rows : AwardRows). is_some (winner rows.notice rows.envelopes) && is_some (award_at (rows.clock.awards + 1) s) in
-    sym (found ∙ ap (λ (o : Option EnvelopeRow). is_some o && is_some (award_at (rows.clock.awards + 1) s)) is ∙ ap by are) ∙ none
+    let by = λ (rows : AwardRows). is_some (winner rows.notice rows.envelopes) && (is_some (award_at (rows.clock.awards + 1) s) || is_named (OfAward (rows.clock.awards + 1)) s) in
+    sym (found ∙ ap (λ (o : Option EnvelopeRow). is_some o && (is_some (award_at (rows.clock.awards + 1) s) || is_named (OfAward (rows.clock.awards + 1)) s)) is ∙ ap by are) ∙ none
 
 pub returns-in-Some-clause-looks : goal.returns-in-Some-clause-looks
 returns-in-Some-clause-looks g c =

@@ -13,7 +13,8 @@ use Rattle.tender_core.specs.Agreeing.{AgreeOnRows, ImportsAgree}
 use Rattle.tender_core.specs.declared.asking.Asking.{Asking}
 use Rattle.office_machine.specs.Lacking.{is_lacking}
 use Rattle.office_machine.specs.Machine.{time_of}
-use Rattle.office_machine.specs.Orphans.{has_rows, names_lost_line}
+use Rattle.office_machine.specs.Orphans.{names_lost_line}
+use Rattle.office_machine.specs.References.{has_rows}
 use Rattle.office_machine.specs.Replies.{Imported}
 use Rattle.office_plans.specs.Asking.{given_by}
 use Rattle.office_plans.specs.Named.{import_named, is_of_lost_line, line_of_row, standings_named}

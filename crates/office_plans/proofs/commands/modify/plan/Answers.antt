@@ -10,6 +10,7 @@ use Rattle.office_base.specs.declared.records.EnvelopeRow.{EnvelopeRow}
 use Rattle.office_machine.specs.Lacking.{is_lacking}
 use Rattle.office_machine.specs.OfficeMeans.{office_readings}
 use Rattle.office_machine.specs.Orphans.{is_torn, receipt_is_taken}
+use Rattle.office_machine.specs.References.{OfReceipt, is_named}
 use Rattle.office_machine.specs.Replies.{modify_reply, received_reply}
 use Rattle.office_plans.proofs.Publishing.{IsTested, grouped, not_planned, on_rows, puts_on, refused_on, two_looks}
 use Rattle.office_plans.proofs.Telling.{fault_told, none_to_tell, refusal_told}
@@ -52,7 +53,7 @@ returns-clause-looks g c publisher =
     (λ s are broken.
     let allowed = refused_on ruled _ _ moment _ c.requires c.refusal.ensures s are ∙ c.in_default.is in
     let there = sym (ap modify_lacks are) ∙ c.in_ok-puts.ensures.whole in
-    let found = sym (broken ∙ ap (λ (rows : ModifyRows). is_some (envelope_at (rows.clock.receipts + 1) s) || is_torn s rows.envelope) are) ∙ c.if-broken.false in
+    let found = sym (broken ∙ ap (λ (rows : ModifyRows). (is_some (envelope_at (rows.clock.receipts + 1) s) || is_named (OfReceipt (rows.clock.receipts + 1)) s) || is_torn s rows.envelope) are) ∙ c.if-broken.false in
     let whole : is_lacking (given_by a.asking.now s (Modify a.receipt a.sealed)) ≡ false =
     grouped (modify_lacks (modify_rows s a.receipt)) (receipt_is_taken s) (is_torn s (envelope_at a.receipt s)) ∙ (λ i. there i || found i) in
     let puts = puts_on ruled _ _ moment (λ (rows : ModifyRows) (t : ℕ). modify_puts sha256 rows t a.sealed) _ c.in_ok-puts.ensures.puts s are refl in

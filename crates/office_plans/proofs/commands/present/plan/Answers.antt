@@ -1,4 +1,4 @@
-use Rattle.std.specs.Prelude.{List, Option, is_some, ℕ, ◌+◌, slice_get}
+use Rattle.std.specs.Prelude.{List, Option, is_some, ℕ, ◌+◌, ◌||◌, slice_get}
 use Rattle.std.proofs.Common.{◌∙◌, ap, refl, sym}
 use Rattle.office_commands.specs.declared.commands.Command.TheVariants.{Present}
 use Rattle.office_commands.specs.declared.tender.NamedSecurity.{NamedSecurity}
@@ -7,6 +7,7 @@ use Rattle.office_base.specs.Transitions.{is_in_time}
 use Rattle.office_base.specs.Tables.{Tables, envelope_at}
 use Rattle.office_base.specs.declared.puts.Put.{Put}
 use Rattle.office_machine.specs.Machine.{time_of}
+use Rattle.office_machine.specs.References.{OfReceipt, is_named}
 use Rattle.office_machine.specs.Replies.{received_reply}
 use Rattle.office_plans.proofs.OwnTenders.{own_tests}
 use Rattle.office_plans.proofs.Publishing.{IsTested, not_planned, on_rows, puts_on, refused_on, two_looks}
@@ -38,7 +39,7 @@ returns-clause-looks g c publisher =
     two_looks _ c.looks_follow.ensures _ _ _ _ _ _ c.in_ok-rows.ensures.0 c.in_ok-taken.ensures.0
     (λ s are taken.
     let allowed = refused_on ruled _ _ moment _ c.requires c.refusal.ensures s are ∙ c.in_default.is in
-    let new = sym (taken ∙ ap (λ (rows : PresentRows). is_some (envelope_at (rows.clock.receipts + 1) s)) are) ∙ c.if-taken.false in
+    let new = sym (taken ∙ ap (λ (rows : PresentRows). is_some (envelope_at (rows.clock.receipts + 1) s) || is_named (OfReceipt (rows.clock.receipts + 1)) s) are) ∙ c.if-taken.false in
     let puts = puts_on ruled _ _ moment (λ (rows : PresentRows) (t : ℕ). present_puts sha256 rows t a.asking.now.caller.now a.notice a.lot a.security a.sealed) _ c.in_ok-puts.ensures.puts s are refl in
     let reply = λ (rows : PresentRows) (t : ℕ).
     reply_text (received_reply (received sha256 rows.clock t a.asking.now.caller.now a.notice a.lot a.security a.sealed (holds_of (is_in_time t) rows.notice))) in

@@ -1,16 +1,16 @@
-use Rattle.std.specs.Prelude.{Option, false, ℕ, ◌≡◌, ◌||◌}
+use Rattle.std.specs.Prelude.{Bool, Option, true, false, ℕ, ◌≡◌, ◌||◌}
 use Rattle.std.proofs.Common.{◌∙◌, ap, refl, sym}
 use Rattle.award_core.specs.Rules.Sign.{sign_lacks, sign_puts, sign_rows, sign_tests}
 use Rattle.award_core.specs.declared.sign.SignRows.{SignRows}
 use Rattle.office_commands.specs.declared.commands.Command.TheVariants.{Sign}
 use Rattle.office_commands.specs.declared.tender.NamedSecurity.{NamedSecurity}
 use Rattle.office_base.specs.Rows.{holds_of}
-use Rattle.office_base.specs.Parents.{envelope_of_award}
+use Rattle.office_base.specs.Parents.{envelope_of_award, lot_of_award}
 use Rattle.office_base.specs.Tables.{Tables, award_at}
 use Rattle.office_machine.specs.Lacking.{is_lacking}
-use Rattle.office_machine.specs.Orphans.{contract_is_taken, lacks_its_security}
+use Rattle.office_machine.specs.Orphans.{contract_is_taken, lacks_its_security, reserves_another}
 use Rattle.office_plans.proofs.Numbered.{numbered_award}
-use Rattle.office_plans.proofs.Publishing.{IsTested, four_looks, grouped, not_planned, puts_on, refused_on}
+use Rattle.office_plans.proofs.Publishing.{IsTested, four_looks, not_planned, puts_on, refused_on}
 use Rattle.office_plans.proofs.Telling.{fault_told, none_to_tell, refusal_told}
 use Rattle.office_plans.proofs.commands.sign.plan.Goals as goal
 use Rattle.office_plans.specs.Asking.{given_by}
@@ -21,6 +21,11 @@ use Rattle.tender_core.specs.declared.asking.Asking.{Asking}
 rule : (asking : Asking) (award : ℕ) (security : Option NamedSecurity) → IsTested asking (Sign award security) (λ (s : Tables). sign_rows s award) (λ (rows : SignRows). rows.clock)
     (λ (rows : SignRows) (t : ℕ). sign_tests rows t security)
 rule asking award security = record { clock = λ s. refl; tested = λ s. refl }
+
+four_grouped : (a b d e : Bool) → (((a || b) || d) || e) ≡ (a || (b || (d || e)))
+four_grouped true b d e = refl
+four_grouped false true d e = refl
+four_grouped false false d e = refl
 
 pub returns-in-Some-clause-looks : goal.returns-in-Some-clause-looks
 returns-in-Some-clause-looks g c =
@@ -36,9 +41,10 @@ returns-clause-looks g c =
     (λ s are taken released joined.
     let allowed = refused_on ruled _ _ moment _ c.requires c.refusal.ensures s are ∙ c.in_default.is in
     let there = sym (ap sign_lacks are) ∙ c.in_ok-puts.ensures.whole in
-    let new = sym (taken ∙ ap (λ (rows : SignRows). contract_is_taken a.award s || holds_of (lacks_its_security s) rows.envelope) are) ∙ c.if-taken.false in
+    let new = sym (taken ∙ ap (λ (rows : SignRows). contract_is_taken a.award s || (holds_of (lacks_its_security s) rows.envelope || holds_of (reserves_another rows.lot) rows.award)) are) ∙ c.if-taken.false in
     let whole : is_lacking (given_by a.asking.now s (Sign a.award a.security)) ≡ false =
-    grouped (sign_lacks (sign_rows s a.award)) (contract_is_taken a.award s) (holds_of (lacks_its_security s) (envelope_of_award (award_at a.award s) s))
+    four_grouped (sign_lacks (sign_rows s a.award)) (contract_is_taken a.award s) (holds_of (lacks_its_security s) (envelope_of_award (award_at a.award s) s))
+    (holds_of (reserves_another (lot_of_award (award_at a.award s) s)) (award_at a.award s))
     ∙ (λ i. there i || new i) in
     let puts = puts_on ruled _ _ moment (λ (rows : SignRows) (t : ℕ). sign_puts rows t a.security) _ c.in_ok-puts.ensures.puts s are refl in
     let row = sym c.as_ref.ensures.value ∙ ap option_copied c.unwrap-row.ensures in

@@ -1,0 +1,20 @@
+-- An examination over any tables makes no parent of rows that are there without it, and replaces no row of another owner.
+use Rattle.std.specs.Prelude.{max, ℕ, Bool, ◌≡◌, Option, Some, None}
+use Rattle.std.proofs.Common.{refl}
+use Rattle.office_base.specs.Tables.{Tables, envelope_at}
+use Rattle.office_base.specs.declared.records.EnvelopeRow.{EnvelopeRow}
+use Rattle.award_core.specs.Rules.Examine.{examine_puts, examine_rows, examined}
+use Rattle.award_core.specs.declared.examine.ExamineRows.{ExamineRows}
+use Rattle.office_machine.proofs.NoParents.Gentle.{AreGentle}
+use Rattle.office_machine.proofs.NoParents.Gentle.{PutsGently}
+use Rattle.office_machine.proofs.NoParents.Kept.{envelope_kept}
+use Rattle.office_commands.specs.declared.commands.Command.TheVariants.{Examine}
+
+examine_by : (s : Tables) (rows : ExamineRows) (t receipt : ℕ) (responsive : Bool) (quality : Option ℕ) (o : Option EnvelopeRow) → envelope_at receipt s ≡ o
+    → AreGentle s (examine_puts (record rows { envelope = o }) t responsive quality)
+examine_by s rows t receipt responsive quality None is = tt
+examine_by s rows t receipt responsive quality (Some e) is = (envelope_kept s receipt e (examined responsive quality e) is refl refl refl refl refl, ((refl, tt), tt))
+
+pub examine_gently : (receipt : ℕ) (responsive : Bool) (quality : Option ℕ) → PutsGently (Examine receipt responsive quality)
+examine_gently receipt responsive quality readings s moment caller order allowed whole =
+    examine_by s (examine_rows s receipt) (max moment s.clock.moment) receipt responsive quality (envelope_at receipt s) refl

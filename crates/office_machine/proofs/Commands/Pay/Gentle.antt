@@ -1,0 +1,31 @@
+-- A payment over any tables makes no parent of rows that are there without it, and replaces no row of another owner.
+use Rattle.std.specs.Prelude.{max, ℕ, false, ◌≡◌, List, Option, Some, None}
+use Rattle.std.proofs.Common.{refl}
+use Rattle.std.specs.List.{list_any}
+use Rattle.office_base.proofs.RowLaws.Keyed.{found_key}
+use Rattle.office_base.specs.Parents.{notice_of_contract}
+use Rattle.office_base.specs.Tables.{Tables, contract_at, entries_of_contract}
+use Rattle.office_base.specs.Transitions.{with_next_release}
+use Rattle.office_base.specs.declared.records.ClockRow.{ClockRow}
+use Rattle.office_base.specs.declared.records.ContractRow.{ContractRow}
+use Rattle.office_base.specs.declared.records.NoticeRow.{NoticeRow}
+use Rattle.award_core.specs.Rules.AmendContract.{is_taken}
+use Rattle.award_core.specs.Rules.Pay.{pay_puts, pay_tests, pay_rows, payment_row}
+use Rattle.office_machine.proofs.NoParents.Gentle.{AreGentle}
+use Rattle.office_machine.proofs.Passed.{none_holds}
+use Rattle.office_machine.proofs.Rows.Keyed as keyed
+use Rattle.office_machine.proofs.NoParents.Gentle.{PutsGently}
+use Rattle.office_machine.proofs.NoParents.Kept.{notice_kept}
+use Rattle.office_machine.proofs.NoParents.New.{new_entry}
+use Rattle.office_commands.specs.declared.commands.Command.TheVariants.{Pay}
+
+pay_by : (s : Tables) (clock : ClockRow) (t contract : ℕ) (entry : List ℕ) (amount : ℕ) (o : Option ContractRow) (n : Option NoticeRow)
+    → list_any (is_taken entry) (entries_of_contract contract s) ≡ false → contract_at contract s ≡ o → notice_of_contract o s ≡ n
+    → AreGentle s (pay_puts (record { contract = o; entries = entries_of_contract contract s; notice = n; clock = clock }) t entry amount)
+pay_by s clock t contract entry amount (Some c) (Some n) new is notice = (new_entry s contract entry new (payment_row t c entry amount) (found_key keyed.contracts s.contracts contract c is) refl, (notice_kept s c.notice n (with_next_release n) notice refl, ((refl, tt), tt)))
+pay_by s clock t contract entry amount None n new is notice = tt
+pay_by s clock t contract entry amount (Some c) None new is notice = tt
+
+pub pay_gently : (contract : ℕ) (entry : List ℕ) (amount : ℕ) → PutsGently (Pay contract entry amount)
+pay_gently contract entry amount readings s moment caller order allowed whole =
+    pay_by s s.clock (max moment s.clock.moment) contract entry amount (contract_at contract s) (notice_of_contract (contract_at contract s) s) (none_holds (pay_tests (pay_rows s contract) entry amount) allowed).1.0 refl refl

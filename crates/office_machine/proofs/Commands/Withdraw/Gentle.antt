@@ -1,0 +1,31 @@
+-- A withdrawal over any tables makes no parent of rows that are there without it, and replaces no row of another owner.
+use Rattle.std.specs.Prelude.{max, ℕ, Bool, true, false, ◌≡◌, Option, Some, None}
+use Rattle.std.proofs.Common.{refl}
+use Rattle.office_base.specs.Parents.{security_of_envelope}
+use Rattle.office_base.specs.Tables.{Tables, envelope_at}
+use Rattle.office_base.specs.Transitions.{passed_over, security_settled, is_late}
+use Rattle.office_base.specs.declared.records.ClockRow.{ClockRow}
+use Rattle.office_base.specs.declared.records.EnvelopeRow.{EnvelopeRow}
+use Rattle.office_base.specs.declared.records.SecurityState.TheVariants.{Returned, Forfeited}
+use Rattle.tender_core.specs.Rules.Modify.{withdrawn}
+use Rattle.tender_core.specs.Rules.Withdraw.{withdraw_puts, taken_back_puts, withdraw_rows}
+use Rattle.tender_core.specs.declared.withdraw.WithdrawRows.{WithdrawRows}
+use Rattle.office_machine.proofs.NoParents.Gentle.{AreGentle}
+use Rattle.office_machine.proofs.NoParents.Gentle.{PutsGently}
+use Rattle.office_machine.proofs.NoParents.Kept.{envelope_kept, gentle-if, security_settles}
+use Rattle.office_commands.specs.declared.commands.Command.TheVariants.{Withdraw}
+
+taken_back_by : (s : Tables) (clock : ClockRow) (t receipt : ℕ) (e : EnvelopeRow) → envelope_at receipt s ≡ Some e → (late : Bool) → AreGentle s (taken_back_puts clock t e (security_of_envelope (Some e) s) late)
+taken_back_by s clock t receipt e is false =
+    (envelope_kept s receipt e (withdrawn e) is refl refl refl refl refl, ((refl, tt), ((refl, tt), gentle-if s (security_settled Returned) (security_of_envelope (Some e) s) (λ r at. security_settles s Returned (Some e) r at))))
+taken_back_by s clock t receipt e is true =
+    (envelope_kept s receipt e (passed_over e) is refl refl refl refl refl, ((refl, tt), gentle-if s (security_settled Forfeited) (security_of_envelope (Some e) s) (λ r at. security_settles s Forfeited (Some e) r at)))
+
+withdraw_by : (s : Tables) (rows : WithdrawRows) (t receipt : ℕ) (o : Option EnvelopeRow) → envelope_at receipt s ≡ o
+    → AreGentle s (withdraw_puts (record rows { envelope = o; security = security_of_envelope o s }) t)
+withdraw_by s rows t receipt None is = tt
+withdraw_by s rows t receipt (Some e) is = taken_back_by s rows.clock t receipt e is (is_late rows.late t rows.notice)
+
+pub withdraw_gently : (receipt : ℕ) → PutsGently (Withdraw receipt)
+withdraw_gently receipt readings s moment caller order allowed whole =
+    withdraw_by s (withdraw_rows s receipt) (max moment s.clock.moment) receipt (envelope_at receipt s) refl
