@@ -22,6 +22,9 @@ BESIDES: dict[str, list[str]] = {
     "procure_programs/src/clock.rt": ["moment_now"], "office_http/src/answering.rt": ["answer_request"],
     "office_desk/src/desk.rt": ["caller", "plan", "commit", "ask", "look"], "office_base/src/shelf.rt": ["apply"], "office_store/src/path.rt": ["open_from"],
     "office_store/src/open.rt": ["create", "open_files", "close_files"], "office_changes/src/apply.rt": ["apply_all"],
+    "office_machine/src/laws.rt": ["terms", "awards", "pages_along", "clock", "late_tenders", "late_withdrawals", "contracts", "imports", "releases", "order",
+                                   "refusals", "query_refusals", "parents", "no_parents", "lacking", "sums", "outstanding", "worlds", "merges"],
+    "office_machine/src/fates.rt": ["rows"], "office_desk/src/laws.rt": ["moved_lines"],
 }
 
 

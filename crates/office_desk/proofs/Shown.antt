@@ -9,7 +9,7 @@ use Rattle.office_machine.specs.Counted.{releases_in}
 use Rattle.office_publications.specs.Merges.{AreSoMany, HasMerge}
 use Rattle.office_publications.specs.Told.{AreAllThere, HasReleases}
 
--- What holds anyway holds of a result.
+-- A fact that holds without the result holds of the result.
 pub on_ok_any : {T E : Type 0} (result : Result T E) (P : Type 0) → P → OnOk result P
 on_ok_any (Ok x) P holds = holds
 on_ok_any (Err why) P holds = tt

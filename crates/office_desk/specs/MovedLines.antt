@@ -1,5 +1,5 @@
 -- The budget lines whose money a command moves.
-use Rattle.std.specs.Prelude.{◌≡◌, ℕ, Bool, true, false, List, Option, Result, Ok, Err}
+use Rattle.std.specs.Prelude.{◌≡◌, ◌⊎◌, ⊥, ℕ, Bool, true, false, List, Option, Result, Ok, Err}
 use Rattle.std.specs.List.{AllByRecursion, list_all}
 use Rattle.std.specs.Option.{option_map_or}
 use Rattle.office_commands.specs.declared.budget.BudgetRow.{BudgetRow}
@@ -9,6 +9,7 @@ use Rattle.office_commands.specs.declared.lot.NewLot.{NewLot}
 use Rattle.office_base.specs.Faults.{HasRisen}
 use Rattle.office_base.specs.Joined.{pots_of}
 use Rattle.office_base.specs.Parents.{line_of_lot, lot_of_award, lot_of_contract}
+use Rattle.office_base.specs.PotsAnswers.{IsUnfit}
 use Rattle.office_base.specs.Tables.{Tables, award_at, contract_at, line_at, lot_at, lots_of_notice}
 use Rattle.office_base.specs.declared.records.LineRow.{LineRow}
 use Rattle.office_base.specs.declared.records.LotRow.{LotRow}
@@ -56,7 +57,8 @@ moved_lines_add_up command s = true
 abbrev pub NoMoveIsLeftOut : Type 0
 NoMoveIsLeftOut = (command : Command) (s : Tables) → moved_lines_add_up command s ≡ true → MovesAddUp command s
 
--- The test succeeds only if they add up, and counts no fault. Otherwise the store has counted a fault.
-abbrev pub IsTested : ℕ → ℕ → Bool → Result Bool ShelfFault → Type 0
-IsTested old new right (Ok adds) = (new ≡ old) × (adds ≡ true → right ≡ true)
-IsTested old new right (Err fault) = HasRisen old new
+-- Either the test counts no fault. Then it succeeds only if they add up, and fails only if one doesn't or if a sum of some line is outside its range. (At the
+-- highest count of faults it may fail for a fault.) Or the store has counted a fault.
+abbrev pub IsTested : ℕ → ℕ → Tables → Bool → Result Bool ShelfFault → Type 0
+IsTested old new s right (Ok adds) = (new ≡ old) × (adds ≡ true → right ≡ true) × (adds ≡ false → ((line : List ℕ) → IsUnfit line s → ⊥) → (right ≡ false) ⊎ HasRisen old new)
+IsTested old new s right (Err fault) = HasRisen old new

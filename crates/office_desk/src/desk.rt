@@ -5,7 +5,7 @@ ghost use Rattle.office_commands.specs.Queries as queries;
 ghost use Rattle.office_commands.specs.Rights.{may, may_look};
 ghost use Rattle.office_base.specs.Tables.{Tables, after_puts};
 ghost use Rattle.office_base.specs.Faults.{HasRisen};
-ghost use Rattle.office_base.specs.Shelves.{Looks, Alters, PutsFail};
+ghost use Rattle.office_base.specs.Shelves.{Looks, Alters};
 ghost use Rattle.office_publications.specs.Keeping.{KeepsReleases};
 ghost use Rattle.office_publications.specs.Publishing.{publishing};
 ghost use Rattle.office_machine.specs.Machine.{Given, IsRegistered, Reaches};
@@ -155,12 +155,11 @@ impl<H: Shelf + Drop> Desk<H> {
         }
     }
 
-    /// Makes these changes, all of them or none. An error says whether memory was too small or the store failed. Nothing is allocated after the changes are made.
+    /// Makes these changes, all of them or none. Nothing is allocated after the changes are made.
     pub fn carry_out(&mut self, puts: Vec<Put>) -> Result<(), ShelfFault>
         ensures alters { Alters H.meaning self.old.shelf self.new.shelf result (after_puts puts.items) }
         ensures settings { self.new.settings ≡ self.old.settings }
         ensures risen { IfErr result (λ _. HasRisen (H.meaning.fault_count self.old.shelf) (H.meaning.fault_count self.new.shelf)) }
-        ensures cause { PutsFail H.meaning self.old.shelf self.new.shelf result puts.items }
     {
         match self.shelf.apply(puts) {
             Ok(()) => Ok(()),
@@ -168,24 +167,8 @@ impl<H: Shelf + Drop> Desk<H> {
         }
     }
 
-    /// Carries out a plan, all of it or nothing, and returns the reply. An error says whether memory was too small or the store failed. Nothing is allocated
-    /// after the changes are made.
-    pub fn try_commit(&mut self, planned: Planned) -> Result<Vec<u8>, ShelfFault>
-        ensures alters { Alters H.meaning self.old.shelf self.new.shelf result (after_puts planned.puts) }
-        ensures settings { self.new.settings ≡ self.old.settings }
-        ensures reply { IfOk result (λ reply. reply.items ≡ planned.reply) }
-        ensures risen { IfErr result (λ _. HasRisen (H.meaning.fault_count self.old.shelf) (H.meaning.fault_count self.new.shelf)) }
-        ensures cause { PutsFail H.meaning self.old.shelf self.new.shelf result planned.puts }
-    {
-        let (puts, reply) = planned.into_parts();
-        match self.carry_out(puts) {
-            Ok(()) => Ok(reply),
-            Err(fault) => Err(fault),
-        }
-    }
-
     /// Carries out a plan, all of it or nothing, and returns the reply. Nothing is allocated after the changes are made. `Unavailable` means too little memory
-    /// or a fault of the store; `try_commit` says which.
+    /// or a fault of the store.
     pub fn commit(&mut self, planned: Planned) -> Result<Vec<u8>, Refusal>
         ensures alters { Alters H.meaning self.old.shelf self.new.shelf result (after_puts planned.puts) }
         ensures settings { self.new.settings ≡ self.old.settings }
@@ -201,8 +184,9 @@ impl<H: Shelf + Drop> Desk<H> {
         fates::tenders();
         fates::securities();
         fates::performances();
-        match self.try_commit(planned) {
-            Ok(reply) => Ok(reply),
+        let (puts, reply) = planned.into_parts();
+        match self.carry_out(puts) {
+            Ok(()) => Ok(reply),
             Err(_) => Err(Refusal::Unavailable),
         }
     }

@@ -27,7 +27,7 @@ use office_values::id::Id;
 // Whether the balances of a line add up, or `missing` if the line doesn't exist. They don't if a sum is out of range, which the store doesn't count as a fault.
 #[tactic(auto, using(crate::proofs::Rising::has_risen))]
 fn adds_up<H: Lookups>(shelf: &mut H, line: &Id, missing: bool) -> Result<bool, ShelfFault>
-    ensures { Looks H.meaning shelf.old shelf.new (λ s. IsTested (H.meaning.fault_count shelf.old) (H.meaning.fault_count shelf.new)
+    ensures { Looks H.meaning shelf.old shelf.new (λ s. IsTested (H.meaning.fault_count shelf.old) (H.meaning.fault_count shelf.new) s
         (option_map_or (λ (row : LineRowOf). pots_add_up (pots_of row s)) (line_at line.now s) missing) result) }
 {
     looks_follow::<H>();
@@ -45,7 +45,7 @@ fn adds_up<H: Lookups>(shelf: &mut H, line: &Id, missing: bool) -> Result<bool, 
 }
 
 fn lot_adds_up<H: Lookups>(shelf: &mut H, notice: &Id, lot: &Id) -> Result<bool, ShelfFault>
-    ensures { Looks H.meaning shelf.old shelf.new (λ s. IsTested (H.meaning.fault_count shelf.old) (H.meaning.fault_count shelf.new) (held_line_adds_up s (line_of_lot (lot_at (notice.now, lot.now) s) s)) result) }
+    ensures { Looks H.meaning shelf.old shelf.new (λ s. IsTested (H.meaning.fault_count shelf.old) (H.meaning.fault_count shelf.new) s (held_line_adds_up s (line_of_lot (lot_at (notice.now, lot.now) s) s)) result) }
 {
     looks_follow::<H>();
     match shelf.get_lot(notice, lot)? {
@@ -55,7 +55,7 @@ fn lot_adds_up<H: Lookups>(shelf: &mut H, notice: &Id, lot: &Id) -> Result<bool,
 }
 
 fn award_adds_up<H: Lookups>(shelf: &mut H, award: AskedNumber) -> Result<bool, ShelfFault>
-    ensures { Looks H.meaning shelf.old shelf.new (λ s. IsTested (H.meaning.fault_count shelf.old) (H.meaning.fault_count shelf.new) (held_line_adds_up s (line_of_lot (lot_of_award (award_at award s) s) s)) result) }
+    ensures { Looks H.meaning shelf.old shelf.new (λ s. IsTested (H.meaning.fault_count shelf.old) (H.meaning.fault_count shelf.new) s (held_line_adds_up s (line_of_lot (lot_of_award (award_at award s) s) s)) result) }
 {
     looks_follow::<H>();
     match shelf.get_award(award)? {
@@ -65,7 +65,7 @@ fn award_adds_up<H: Lookups>(shelf: &mut H, award: AskedNumber) -> Result<bool, 
 }
 
 fn contract_adds_up<H: Lookups>(shelf: &mut H, contract: AskedNumber) -> Result<bool, ShelfFault>
-    ensures { Looks H.meaning shelf.old shelf.new (λ s. IsTested (H.meaning.fault_count shelf.old) (H.meaning.fault_count shelf.new) (held_line_adds_up s (line_of_lot (lot_of_contract (contract_at contract s) s) s)) result) }
+    ensures { Looks H.meaning shelf.old shelf.new (λ s. IsTested (H.meaning.fault_count shelf.old) (H.meaning.fault_count shelf.new) s (held_line_adds_up s (line_of_lot (lot_of_contract (contract_at contract s) s) s)) result) }
 {
     looks_follow::<H>();
     match shelf.get_contract(contract)? {
@@ -76,7 +76,7 @@ fn contract_adds_up<H: Lookups>(shelf: &mut H, contract: AskedNumber) -> Result<
 
 // The lines of a budget file.
 fn rows_add_up<H: Lookups>(shelf: &mut H, rows: &[BudgetRow]) -> Result<bool, ShelfFault>
-    ensures { Looks H.meaning shelf.old shelf.new (λ s. IsTested (H.meaning.fault_count shelf.old) (H.meaning.fault_count shelf.new)
+    ensures { Looks H.meaning shelf.old shelf.new (λ s. IsTested (H.meaning.fault_count shelf.old) (H.meaning.fault_count shelf.new) s
         (list_all (λ (row : BudgetRowOf). line_adds_up s (line_at row.line s)) rows.now) result) }
 {
     looks_follow::<H>();
@@ -90,7 +90,7 @@ fn rows_add_up<H: Lookups>(shelf: &mut H, rows: &[BudgetRow]) -> Result<bool, Sh
 
 // The lines of lots that are to be published.
 fn new_lots_add_up<H: Lookups>(shelf: &mut H, lots: &[NewLot]) -> Result<bool, ShelfFault>
-    ensures { Looks H.meaning shelf.old shelf.new (λ s. IsTested (H.meaning.fault_count shelf.old) (H.meaning.fault_count shelf.new)
+    ensures { Looks H.meaning shelf.old shelf.new (λ s. IsTested (H.meaning.fault_count shelf.old) (H.meaning.fault_count shelf.new) s
         (list_all (λ (lot : NewLotOf). held_line_adds_up s (line_at lot.line s)) lots.now) result) }
 {
     looks_follow::<H>();
@@ -104,7 +104,7 @@ fn new_lots_add_up<H: Lookups>(shelf: &mut H, lots: &[NewLot]) -> Result<bool, S
 
 // The lines of these lots.
 fn lots_add_up<H: Lookups>(shelf: &mut H, lots: &[LotRow]) -> Result<bool, ShelfFault>
-    ensures { Looks H.meaning shelf.old shelf.new (λ s. IsTested (H.meaning.fault_count shelf.old) (H.meaning.fault_count shelf.new)
+    ensures { Looks H.meaning shelf.old shelf.new (λ s. IsTested (H.meaning.fault_count shelf.old) (H.meaning.fault_count shelf.new) s
         (list_all (λ (lot : LotRowOf). held_line_adds_up s (line_at lot.line s)) lots.now) result) }
 {
     looks_follow::<H>();
@@ -121,7 +121,7 @@ pub(crate) fn moved_lines_add_up<H: Lookups>(
     shelf: &mut H,
     command: &Command<'_>,
 ) -> Result<bool, ShelfFault>
-    ensures { Looks H.meaning shelf.old shelf.new (λ s. IsTested (H.meaning.fault_count shelf.old) (H.meaning.fault_count shelf.new) (moved_lines_add_up command.now s) result) }
+    ensures { Looks H.meaning shelf.old shelf.new (λ s. IsTested (H.meaning.fault_count shelf.old) (H.meaning.fault_count shelf.new) s (moved_lines_add_up command.now s) result) }
 {
     looks_follow::<H>();
     match command {

@@ -21,7 +21,7 @@ use Rattle.office_requests.specs.Routing.{routed}
 use Rattle.office_requests.specs.declared.asked.Asked.{Asked}
 use Rattle.office_requests.specs.declared.route.Allow.{Allow}
 use Rattle.office_requests.specs.declared.route.Route.{Route}
-use Rattle.office_http.specs.Certain.{is_found, refusal_in, refusal_meant, takes_none}
+use Rattle.office_http.specs.Certain.{is_found, refusal_of_answer, refusal_meant, takes_none}
 use Rattle.office_http.specs.Credentials.{credentials_of}
 use Rattle.office_http.specs.Meaning.{Meant, Refuses, Gives, Sees, meant, meant_asked, meant_at, meant_by, who}
 use Rattle.office_http.specs.Response.{response_of}
@@ -86,7 +86,7 @@ module _ (s : Tables) (moment : ℕ) (caller : Caller) (command : Command) where
 
 module _ (s : Tables) (moment : ℕ) (caller : Caller) (query : Query) where
   -- The refusal is the specification's answer to the query.
-  is_refusal : (shown : Result (List ℕ) Refusal) (why : Reason) → option_map (λ (w : Refusal). (w, (let none : Option Allow = None in none))) (refusal_in shown) ≡ Some why
+  is_refusal : (shown : Result (List ℕ) Refusal) (why : Reason) → option_map (λ (w : Refusal). (w, (let none : Option Allow = None in none))) (refusal_of_answer shown) ≡ Some why
       → (shown ≡ Err why.0) × (why.1 ≡ None)
   is_refusal (Ok text) why is = absurd (cc is)
   is_refusal (Err w) why is = let same : (w, None) ≡ why = cc is in (ap (λ (r : Reason). Err r.0) same, ap (λ (r : Reason). r.1) (sym same))

@@ -23,15 +23,15 @@ use Rattle.office_http.specs.Response.{response_of}
 use Rattle.office_http.specs.declared.reply.Reply.TheVariants.{Refused}
 
 -- The refusal, if the answer is one.
-abbrev pub refusal_in : Result (List ℕ) Refusal → Option Refusal
-refusal_in (Ok text) = None
-refusal_in (Err why) = Some why
+abbrev pub refusal_of_answer : Result (List ℕ) Refusal → Option Refusal
+refusal_of_answer (Ok text) = None
+refusal_of_answer (Err why) = Some why
 
 -- The refusal of the meaning of a request, with the method of the path if the request has another one.
 abbrev pub refusal_meant : Tables → ℕ → Meant → Option (Refusal × Option Allow)
 refusal_meant s moment (Refuses why method) = Some (why, method)
 refusal_meant s moment (Gives caller command) = option_map (λ (why : Refusal). (why, None)) (refusal_of (given s moment caller command))
-refusal_meant s moment (Sees caller query) = option_map (λ (why : Refusal). (why, None)) (refusal_in (text_of (told no_packages s caller query)))
+refusal_meant s moment (Sees caller query) = option_map (λ (why : Refusal). (why, None)) (refusal_of_answer (text_of (told no_packages s caller query)))
 
 -- The decision needs no memory. Only an import and a publication need some, for the budget lines that they name.
 abbrev pub takes_none : Meant → Bool

@@ -1,4 +1,4 @@
--- Over any tables, no accepted command that misses no row makes a parent of rows that are there without it, or replaces a row of another owner.
+-- Over any tables, no accepted command that misses no row makes a missing parent of a row, or replaces a row of another owner.
 pub mod Gentle
 pub mod Kept
 pub mod Named

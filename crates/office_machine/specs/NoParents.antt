@@ -1,4 +1,4 @@
--- Over any tables: an accepted command that misses no row makes no parent of rows that are there without it, and replaces no row of another owner.
+-- Over any tables: an accepted command that misses no row makes no missing parent of a row, and replaces no row of another owner.
 use Rattle.std.specs.Prelude.{◌≡◌, ℕ, true, false, List, None, Some, IsSome}
 use Rattle.office_base.specs.Tables.{Tables, IsSorted, award_at, contract_at, entry_at, envelope_at, lot_at, performance_at, seal_at, security_at, tenderer_at}
 use Rattle.office_base.specs.declared.records.AwardRow.{AwardRow}

@@ -19,11 +19,11 @@ has_rows_of_notice notice s = is_named (OfNotice notice) s
 abbrev pub names_lost_line : Tables → BudgetRow → Bool
 names_lost_line s row = not (is_some (line_at row.line s)) && has_rows (lots_of_line row.line s)
 
--- A tender has the receipt that the next one gets, or the bytes or the security of such a tender are there.
+-- A tender, sealed bytes or a security already has the receipt that the next tender gets.
 abbrev pub receipt_is_taken : Tables → Bool
 receipt_is_taken s = is_some (envelope_at (s.clock.receipts + 1) s) || is_named (OfReceipt (s.clock.receipts + 1)) s
 
--- The lot has a winner, and an award has the number that the next one gets, or a contract of such an award is there.
+-- The lot has a winner, and an award or a contract already has the number that the next award gets.
 abbrev pub award_is_taken : List ℕ → List ℕ → Tables → Bool
 award_is_taken notice lot s =
     is_some (winner (notice_at notice s) (envelopes_of_lot notice lot s))
@@ -45,7 +45,7 @@ lacks_lot s e = not (is_some (lot_at (e.notice, e.lot) s))
 abbrev pub is_torn : Tables → Option EnvelopeRow → Bool
 is_torn s o = holds_of (lacks_seal s) o || holds_of (lacks_lot s) o || holds_of (lacks_its_security s) o
 
--- A contract has the number of this award, or its entries or its performance security are there.
+-- A contract, an entry or a performance security already has the number of this award.
 abbrev pub contract_is_taken : ℕ → Tables → Bool
 contract_is_taken award s = is_some (contract_at award s) || is_named (OfContract award) s
 

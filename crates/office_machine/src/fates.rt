@@ -18,8 +18,8 @@ pub fn performances()
     ensures { PerformancesAreKept }
 {}
 
-/// In every reached office, the rows of tenders, seals, securities and performance securities are functions of the accepted commands. Of a tender's row this is
-/// all but what its opening and its examination wrote.
+/// In every reached office, the rows of tenders, seals, securities and performance securities are functions of the accepted commands. In a tender's row this
+/// leaves out the columns that its opening and its examination write.
 pub fn rows()
     ensures { RowsAreFolded }
 {}

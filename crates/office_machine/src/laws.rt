@@ -80,7 +80,7 @@ pub fn lacking()
     ensures { NothingIsLacking }
 {}
 
-/// Over any tables, an accepted command that misses no row makes no parent of rows that are there without it, and replaces no row of another owner.
+/// Over any tables, an accepted command that misses no row makes no missing parent of a row, and replaces no row of another owner.
 /// These are all kinds of parents but those that neither a key nor an index finds.
 pub fn no_parents()
     ensures made { NoParentIsMade }

@@ -43,7 +43,7 @@ pub fn has_rows_of_notice<H: Lookups>(shelf: &mut H, notice: &Id) -> Result<bool
     )
 }
 
-/// Whether a tender has the receipt that the next one gets, or the bytes or the security of such a tender are there.
+/// Whether a tender, sealed bytes or a security already has the receipt that the next tender gets.
 pub fn receipt_is_taken<H: Lookups>(shelf: &mut H, clock: &ClockRow) -> Result<bool, ShelfFault>
     ensures { LooksUp H.meaning shelf.old shelf.new result (λ s found.
         found ≡ (is_some (envelope_at (clock.now.receipts + 1) s) || is_named (OfReceipt (clock.now.receipts + 1)) s)) }
@@ -67,7 +67,7 @@ fn has_rows_of_contract<H: Lookups>(
     Ok(!entries.is_empty() || performance.is_some())
 }
 
-/// Whether the lot has this best tender, and an award has the number that its award would get, or a contract of such an award is there.
+/// Whether the lot has this best tender, and an award or a contract already has the number that its award would get.
 pub fn award_is_taken<H: Lookups>(
     shelf: &mut H,
     clock: &ClockRow,
@@ -87,7 +87,7 @@ pub fn award_is_taken<H: Lookups>(
     Ok(award.is_some() || (contract.is_some() || !entries.is_empty() || performance.is_some()))
 }
 
-// Whether a contract has the number of this award, or its entries or its performance security are there.
+// Whether a contract, an entry or a performance security already has the number of this award.
 fn contract_is_taken<H: Lookups>(shelf: &mut H, award: AskedNumber) -> Result<bool, ShelfFault>
     ensures { LooksUp H.meaning shelf.old shelf.new result (λ s found. found ≡ contract_is_taken award s) }
 {

@@ -49,5 +49,5 @@ pub record Lawful (command : Command) : Type 0 where
       → (rule_of command).lacks s ≡ false
   -- two offices that differ only in the bytes that a tenderer seals remain alike
   pub alike : PutsAlike command
-  -- over any tables, its rows make no parent of rows that are there without it, and replace no row of another owner
+  -- over any tables, its rows make no missing parent of a row, and replace no row of another owner
   pub gentle : PutsGently command

@@ -1,4 +1,4 @@
--- The rows of tenders, seals, securities and performance securities are what the accepted commands make of them.
+-- The accepted commands make the rows of tenders, seals, securities and performance securities.
 use Rattle.std.specs.Prelude.{◌≡◌, ℕ, false, List, Option, Some, None, option_map}
 use Rattle.std.proofs.Common.{refl, sym, ap, ◌∙◌}
 use Rattle.office_base.proofs.RowLaws.Keyed.{found_key}

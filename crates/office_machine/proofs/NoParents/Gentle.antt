@@ -1,4 +1,4 @@
--- Over any tables, puts that make no parent of rows that are there leave those rows without one.
+-- Over any tables, a row without a parent has none after puts that make no missing parent.
 use Rattle.std.specs.Prelude.{max, ℕ, Bool, true, false, cond, not, ◌&&◌, ◌≡◌, List, [], ◌∷◌, ◌++◌, Option, Some, None, is_some, map}
 use Rattle.std.proofs.Common.{refl, sym, ◌∙◌, ap, subst, inl, inr}
 use Rattle.std.specs.List.{AllByRecursion}
@@ -41,7 +41,7 @@ made (puts.Award r) = Some (OfAward r.award)
 made (puts.Contract r) = Some (OfContract r.contract)
 made _ = None
 
--- The change makes a parent for a row that is there without it.
+-- The change makes a parent for a row that has none.
 abbrev pub makes_parent : Tables → Put → Bool
 makes_parent t p = holds_of (λ parent. not (is_there parent t) && is_named parent t) (made p)
 
@@ -63,7 +63,7 @@ IsGentle t p = (makes_parent t p ≡ false) × KeepsOwner t p
 abbrev pub AreGentle : Tables → List Put → Type 0
 AreGentle t ps = AllByRecursion (IsGentle t) ps
 
--- What an accepted command puts that misses no row, over tables in the order of their keys.
+-- The rows that an accepted command puts, if it misses no row, over tables in the order of their keys.
 abbrev pub PutsGently : Command → Type 0
 PutsGently command = (readings : Readings) (s : Tables) (moment : ℕ) (caller : Caller) → IsSorted s → first_of (tests_for s (max moment s.clock.moment) caller command) ≡ None
     → (rule_of command).lacks s ≡ false → AreGentle s (puts_for readings s (max moment s.clock.moment) caller command)

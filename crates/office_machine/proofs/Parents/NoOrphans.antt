@@ -64,7 +64,7 @@ apart_numbers find a b there none = by (same_number a b) refl
     by false is = is
     by true is = absurd (let no : true ≡ false = sym there ∙ ap (λ k. is_some (find k)) (equal_keys nat_cmp-IsAntisymmetric a b is) ∙ none in cc)
 
--- A row that would have its parent isn't there, because the parent isn't.
+-- If each row has its parent, and this parent is missing, the row is missing too.
 none_there : {X : Type 0} (o : Option X) {parent : Bool} → ((x : X) → o ≡ Some x → parent ≡ true) → parent ≡ false → is_some o ≡ false
 none_there None has none = refl
 none_there (Some x) has none = absurd (let no : true ≡ false = sym (has x refl) ∙ none in cc)
@@ -91,7 +91,7 @@ module _ (s : Tables) (have : HaveParents s s) (order : IsSorted s) where
       none_there (compiled_at notice s) (λ r is. ap (λ k. is_some (notice_at k s)) (sym (found_key keyed.compiled s.compiled notice r is)) ∙ (have.merges notice r is).notice) (ap is_some none) in
       λ i. lots i || tenders i || releases i || securities i || awards i || contracts i || late i || merge i
 
-  -- Nothing is there of a contract that is missing.
+  -- A contract that is missing has no rows.
   pub no_rows_of_contract : (contract : ℕ) → is_some (contract_at contract s) ≡ false → is_named (OfContract contract) s ≡ false
   no_rows_of_contract contract none =
       let entries : has_rows (entries_of_contract contract s) ≡ false =

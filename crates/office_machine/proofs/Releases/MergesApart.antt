@@ -42,7 +42,7 @@ puts_beside (p ∷ ps) merges s =
 
 -- Commands.
 
--- a rule, with these merges beside the office before it and those beside the office after it; `lacks` looks for a merge that is left over, and no step reads it
+-- a rule, with the merges beside the office before it and after it; `lacks` looks for a merge that is left over, and no step reads it
 abbrev pub past_merges : List CompiledRow → List CompiledRow → Rule → Rule
 past_merges before after rule = record {
   tests = λ s. rule.tests (with_merges before s);

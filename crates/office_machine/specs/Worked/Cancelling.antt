@@ -17,7 +17,7 @@ use Rattle.office_base.specs.declared.records.NoticeState.TheVariants as notice_
 use Rattle.office_base.specs.declared.records.SecurityState.TheVariants as security_in
 use Rattle.office_machine.specs.Replies.{OfNotice, Refused}
 use Rattle.office_machine.specs.Requests.{Request}
-use Rattle.office_machine.specs.Worked.Office.{awarded, awards, by, cancels, deadline, decided, examines, fails, february, l1, l2, looks, lot, money, n1, office, opens, pots, pots_are, presents, publish, security, setup, signs, standstill_end, states_of_lots, states_of_securities, states_of_tenders, t1, t2, tendered, tenderers, told, two_notices}
+use Rattle.office_machine.specs.Worked.Office.{awarded, awards, by, cancels, deadline, decided, examines, fails, february, l1, l2, looks, lot, money, n1, office, opens, pots, pots_are, presents, publish, security, setup, signs, standstill_end, states_of_lots, states_of_securities, states_of_tenders, t1, t2, tendered, tenderers, replies, two_notices}
 
 -- One tender of 700 with a security wins the lot.
 abbrev pub won : List Request
@@ -55,7 +55,7 @@ award_states asked = map (λ (a : AwardRow). a.state) (office asked).awards
 
 pub record CancellingWorked : Type 0 where
   -- A notice is cancelled before its opening.
-  pub is_cancelled : told tendered (cancels february ∷ []) ≡ OfNotice n1 2 february ∷ []
+  pub is_cancelled : replies tendered (cancels february ∷ []) ≡ OfNotice n1 2 february ∷ []
   -- The reserved money is free again.
   pub money_goes_back : pots cancelled ≡ pots_are 1000 1000 0 0 0
   -- The sealed tenders are returned.
@@ -71,12 +71,12 @@ pub record CancellingWorked : Type 0 where
   -- The notice is cancelled.
   pub notice_is_cancelled : notice_states cancelled ≡ notice_in.Cancelled ∷ []
   -- A cancelled notice can't be cancelled again or opened, and it has no minutes.
-  pub nothing_is_left : told cancelled (cancels february ∷ opens deadline ∷ looks Public deadline (queries.Minutes n1) ∷ [])
+  pub nothing_is_left : replies cancelled (cancels february ∷ opens deadline ∷ looks Public deadline (queries.Minutes n1) ∷ [])
       ≡ Refused NothingToCancel ∷ Refused NotOpenForTenders ∷ Refused NotOpened ∷ []
   -- A lot of 600 was awarded at 700, which is reserved.
   pub won_pots : pots won ≡ pots_are 1000 300 700 0 0
   -- After the cancellation the award can't be signed, and the lot can't be awarded.
-  pub award_is_cancelled : told won (cancels decided ∷ signs standstill_end 1 ∷ awards standstill_end ∷ [])
+  pub award_is_cancelled : replies won (cancels decided ∷ signs standstill_end 1 ∷ awards standstill_end ∷ [])
       ≡ OfNotice n1 4 decided ∷ Refused AlreadyDecided ∷ Refused AlreadyDecided ∷ []
   -- The price of the cancelled award is free again.
   pub reserved_goes_back : pots (won ++ cancels decided ∷ []) ≡ pots_are 1000 1000 0 0 0
@@ -99,7 +99,7 @@ pub record CancellingWorked : Type 0 where
   -- The contract keeps its money.
   pub contract_stays : pots (one_contracted ++ cancels standstill_end ∷ []) ≡ pots_are 1000 700 0 300 0
   -- If every lot has a contract, there is nothing to cancel.
-  pub nothing_but_contracts : told (awarded ++ signs standstill_end 1 ∷ []) (cancels standstill_end ∷ []) ≡ Refused NothingToCancel ∷ []
+  pub nothing_but_contracts : replies (awarded ++ signs standstill_end 1 ∷ []) (cancels standstill_end ∷ []) ≡ Refused NothingToCancel ∷ []
   -- The money that two lots on one line reserved is free again.
   pub both_go_back : pots two_lots ≡ pots_are 1000 1000 0 0 0
   -- Another notice keeps its money.
@@ -110,4 +110,4 @@ pub record CancellingWorked : Type 0 where
   pub other_security_stays : states_of_securities (two_notices ++ cancels february ∷ [])
       ≡ security_in.Returned ∷ security_in.Returned ∷ security_in.Held ∷ []
   -- A notice that doesn't exist can't be cancelled.
-  pub no_such_notice : told money (cancels february ∷ []) ≡ Refused (NoSuch things.Notice) ∷ []
+  pub no_such_notice : replies money (cancels february ∷ []) ≡ Refused (NoSuch things.Notice) ∷ []

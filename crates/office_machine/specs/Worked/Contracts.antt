@@ -17,7 +17,7 @@ use Rattle.office_base.specs.declared.records.EntryRow.{EntryRow}
 use Rattle.office_machine.specs.Moves.{owed}
 use Rattle.office_machine.specs.Replies.{LedgerSeen, OfContract, Refused, Reply}
 use Rattle.office_machine.specs.Requests.{Request}
-use Rattle.office_machine.specs.Worked.Office.{accepted, awards, by, by_clerk, deadline, decided, examines, february, l1, l2, looks, lot, money, n1, numbered_name, office, opens, pots, pots_are, presents, publish, refused, roads, security, setup_with, signs, standstill_end, t1, t2, tenderers, told, told_in}
+use Rattle.office_machine.specs.Worked.Office.{accepted, awards, by, by_clerk, deadline, decided, examines, february, l1, l2, looks, lot, money, n1, numbered_name, office, opens, pots, pots_are, presents, publish, refused, roads, security, setup_with, signs, standstill_end, t1, t2, tenderers, replies, replies_in}
 
 -- Contract 1 is raised or cut.
 abbrev pub changes_by : ChangeKind → List ℕ → ℕ → Request
@@ -107,7 +107,7 @@ pub record ContractsWorked : Type 0 where
   -- The signed amount is contracted.
   pub is_contracted : pots signed ≡ pots_are 1000 300 0 700 0
   -- The replies to a raise and to a payment have the outstanding amount after them.
-  pub raised_and_paid : told signed (raises (codes "E1") 50 ∷ pays (codes "E2") 300 ∷ [])
+  pub raised_and_paid : replies signed (raises (codes "E1") 50 ∷ pays (codes "E2") 300 ∷ [])
       ≡ OfContract 1 750 5 standstill_end ∷ OfContract 1 450 6 standstill_end ∷ []
   -- A raise takes free money, and a payment takes contracted money.
   pub pots_then : pots paid ≡ pots_are 1000 250 0 450 300
@@ -119,18 +119,18 @@ pub record ContractsWorked : Type 0 where
       ∷ record { contract = 1; entry = codes "E2"; kind = entries.Payment; amount = 300; moment = standstill_end; rationale = None }
       ∷ []
   -- No payment exceeds the outstanding amount, but it can equal it.
-  pub no_more_than_outstanding : told paid (pays (codes "E3") 451 ∷ pays (codes "E3") 450 ∷ [])
+  pub no_more_than_outstanding : replies paid (pays (codes "E3") 451 ∷ pays (codes "E3") 450 ∷ [])
       ≡ Refused MoreThanOutstanding ∷ OfContract 1 0 7 standstill_end ∷ []
   -- An identifier is used for one entry of a contract, whether a payment or a raise.
-  pub not_twice : told paid (pays (codes "E2") 300 ∷ raises (codes "E2") 1 ∷ pays (codes "E1") 1 ∷ []) ≡ Refused Exists ∷ Refused Exists ∷ Refused Exists ∷ []
+  pub not_twice : replies paid (pays (codes "E2") 300 ∷ raises (codes "E2") 1 ∷ pays (codes "E1") 1 ∷ []) ≡ Refused Exists ∷ Refused Exists ∷ Refused Exists ∷ []
   -- So no payment is made twice.
   pub paid_once : pots (paid ++ pays (codes "E2") 300 ∷ []) ≡ pots_are 1000 250 0 450 300
   -- Another contract may use the same identifier.
-  pub other_contract : told two_contracts (by_clerk standstill_end (Pay 2 (codes "P1") 100) ∷ []) ≡ OfContract 2 300 8 standstill_end ∷ []
+  pub other_contract : replies two_contracts (by_clerk standstill_end (Pay 2 (codes "P1") 100) ∷ []) ≡ OfContract 2 300 8 standstill_end ∷ []
   -- Then both payments count.
   pub both_are_paid : pots (two_contracts ++ by_clerk standstill_end (Pay 2 (codes "P1") 100) ∷ []) ≡ pots_are 1000 300 0 500 200
   -- A cut goes up to the outstanding amount, and a raise up to the free money. A contract that is cut to nothing can end.
-  pub cut_and_raise_are_bounded : told paid (cuts (codes "E3") 451 ∷ raises (codes "E3") 251 ∷ cuts (codes "E3") 450 ∷ ends Regular ∷ [])
+  pub cut_and_raise_are_bounded : replies paid (cuts (codes "E3") 451 ∷ raises (codes "E3") 251 ∷ cuts (codes "E3") 450 ∷ ends Regular ∷ [])
       ≡ Refused MoreThanOutstanding
       ∷ Refused InsufficientFunds
       ∷ OfContract 1 0 7 standstill_end
@@ -139,9 +139,9 @@ pub record ContractsWorked : Type 0 where
   -- The money that is cut is free again.
   pub cut_is_free : pots (paid ++ cuts (codes "E3") 450 ∷ []) ≡ pots_are 1000 700 0 0 300
   -- A raise may take all free money.
-  pub raised_by_all : told paid (raises (codes "E3") 250 ∷ []) ≡ OfContract 1 700 7 standstill_end ∷ []
+  pub raised_by_all : replies paid (raises (codes "E3") 250 ∷ []) ≡ OfContract 1 700 7 standstill_end ∷ []
   -- After the end of a contract nothing is outstanding.
-  pub is_ended : told paid (ends Regular ∷ []) ≡ OfContract 1 0 7 standstill_end ∷ []
+  pub is_ended : replies paid (ends Regular ∷ []) ≡ OfContract 1 0 7 standstill_end ∷ []
   -- The amount that was outstanding is free again.
   pub rest_is_free : pots ended ≡ pots_are 1000 700 0 0 300
   -- By the moves of the commands, nothing is owed.
@@ -164,14 +164,14 @@ pub record ContractsWorked : Type 0 where
   pub after_end : refused ended (pays (codes "E3") 1 ∷ cuts (codes "E3") 1 ∷ raises (codes "E3") 701 ∷ ends ForDefault ∷ pays (codes "E2") 1 ∷ [])
       ≡ Some ContractEnded ∷ Some ContractEnded ∷ Some ContractEnded ∷ Some ContractEnded ∷ Some Exists ∷ []
   -- A contract has at most 200 entries.
-  pub last_entry : told_in (with_entries signed 199) (pays (codes "E1") 1 ∷ pays (codes "E2") 1 ∷ [])
+  pub last_entry : replies_in (with_entries signed 199) (pays (codes "E1") 1 ∷ pays (codes "E2") 1 ∷ [])
       ≡ OfContract 1 699 5 standstill_end ∷ Refused LimitReached ∷ []
   -- After the end, this bound isn't reported.
-  pub full_and_ended : told_in (with_entries ended 200) (pays (codes "E1") 1 ∷ raises (codes "E1") 1 ∷ []) ≡ Refused ContractEnded ∷ Refused ContractEnded ∷ []
+  pub full_and_ended : replies_in (with_entries ended 200) (pays (codes "E1") 1 ∷ raises (codes "E1") 1 ∷ []) ≡ Refused ContractEnded ∷ Refused ContractEnded ∷ []
   -- The ledger before the end of the contract.
-  pub ledger_before : told paid (sees_ledger ∷ []) ≡ line_of_ledger 1000 250 0 450 300 ∷ []
+  pub ledger_before : replies paid (sees_ledger ∷ []) ≡ line_of_ledger 1000 250 0 450 300 ∷ []
   -- The ledger after the end of the contract.
-  pub ledger_after : told ended (sees_ledger ∷ []) ≡ line_of_ledger 1000 700 0 0 300 ∷ []
+  pub ledger_after : replies ended (sees_ledger ∷ []) ≡ line_of_ledger 1000 700 0 0 300 ∷ []
   -- A contract that doesn't exist can be neither paid nor ended.
   pub no_such_contract : refused signed (by_clerk standstill_end (Pay 2 (codes "E1") 1) ∷ by_clerk standstill_end (End 2 Regular) ∷ [])
       ≡ Some (NoSuch things.Contract) ∷ Some (NoSuch things.Contract) ∷ []

@@ -17,7 +17,7 @@ use Rattle.office_base.specs.declared.records.LotState.{LotState}
 use Rattle.office_base.specs.declared.records.LotState.TheVariants as lot_in
 use Rattle.office_machine.specs.Replies.{EvaluatedLot, EvaluatedTender, EvaluationSeen, Refused, Reply}
 use Rattle.office_machine.specs.Requests.{Request}
-use Rattle.office_machine.specs.Worked.Office.{awards, by, by_clerk, cancels, deadline, decided, examines, fails, february, l1, l2, looks, lot, money, n1, n2, opens, presents, publish, security, setup, setup_with, standstill_end, t1, t2, t3, tenderers, told}
+use Rattle.office_machine.specs.Worked.Office.{awards, by, by_clerk, cancels, deadline, decided, examines, fails, february, l1, l2, looks, lot, money, n1, n2, opens, presents, publish, security, setup, setup_with, standstill_end, t1, t2, t3, tenderers, replies}
 use Rattle.office_machine.specs.Worked.Withdrawing.{hour_later, two, withdraws}
 
 -- A query for the evaluation.
@@ -110,26 +110,26 @@ two_lots =
 
 pub record EvaluatingWorked : Type 0 where
   -- The evaluation is refused before the opening, for a notice that was cancelled before it, and for a notice that doesn't exist.
-  pub not_yet : told setup (evaluates Clerk n1 ∷ evaluates Public n1 ∷ evaluates Public n2 ∷ []) ≡ Refused NotOpened ∷ Refused NotOpened ∷ Refused (NoSuch things.Notice) ∷ []
-  pub never : told (setup ++ cancels february ∷ []) (evaluates Clerk n1 ∷ []) ≡ Refused NotOpened ∷ []
+  pub not_yet : replies setup (evaluates Clerk n1 ∷ evaluates Public n1 ∷ evaluates Public n2 ∷ []) ≡ Refused NotOpened ∷ Refused NotOpened ∷ Refused (NoSuch things.Notice) ∷ []
+  pub never : replies (setup ++ cancels february ∷ []) (evaluates Clerk n1 ∷ []) ≡ Refused NotOpened ∷ []
   -- The clerk sees tenders that aren't examined yet.
-  pub clerk_sees_all : told opened (evaluates Clerk n1 ∷ []) ≡ one_lot lot_in.Undecided (waiting 1 t1 500 ∷ waiting 2 t2 750 ∷ unreadable ∷ []) [] ∷ []
+  pub clerk_sees_all : replies opened (evaluates Clerk n1 ∷ []) ≡ one_lot lot_in.Undecided (waiting 1 t1 500 ∷ waiting 2 t2 750 ∷ unreadable ∷ []) [] ∷ []
   -- After the examination, the tenders have 60000 + 10000 and 40000 + 35000 thousandths of points.
-  pub clerk_sees_points : told examined (evaluates Clerk n1 ∷ []) ≡ one_lot lot_in.Undecided all_three [] ∷ []
+  pub clerk_sees_points : replies examined (evaluates Clerk n1 ∷ []) ≡ one_lot lot_in.Undecided all_three [] ∷ []
   -- Before the award, others see only the lot, whatever was examined.
-  pub confidential : told examined (evaluates Public n1 ∷ evaluates (Tenderer t1) n1 ∷ []) ≡ one_lot lot_in.Undecided [] [] ∷ one_lot lot_in.Undecided [] [] ∷ []
+  pub confidential : replies examined (evaluates Public n1 ∷ evaluates (Tenderer t1) n1 ∷ []) ≡ one_lot lot_in.Undecided [] [] ∷ one_lot lot_in.Undecided [] [] ∷ []
   -- After the award everyone sees the tenders and the award.
-  pub awarded_for_all : told awarded (evaluates Public n1 ∷ evaluates Clerk n1 ∷ [])
+  pub awarded_for_all : replies awarded (evaluates Public n1 ∷ evaluates Clerk n1 ∷ [])
       ≡ one_lot lot_in.Awarded all_three (award_of award_in.Active ∷ []) ∷ one_lot lot_in.Awarded all_three (award_of award_in.Active ∷ []) ∷ []
   -- After the award has failed, everyone still sees them. A winner who didn't sign has no points.
-  pub failed_for_all : told failed (evaluates Public n1 ∷ []) ≡ one_lot lot_in.Undecided one_failed (award_of award_in.Failed ∷ []) ∷ []
+  pub failed_for_all : replies failed (evaluates Public n1 ∷ []) ≡ one_lot lot_in.Undecided one_failed (award_of award_in.Failed ∷ []) ∷ []
   -- If the price alone decides, no tender has points. A tender that isn't responsive has none either way.
-  pub without_points : told (by_price ++ by_clerk decided (Examine 1 false None) ∷ examines 2 ∷ []) (evaluates Clerk n1 ∷ [])
+  pub without_points : replies (by_price ++ by_clerk decided (Examine 1 false None) ∷ examines 2 ∷ []) (evaluates Clerk n1 ∷ [])
       ≡ one_lot lot_in.Undecided (tender 1 t1 (Priced 500 500 0) (Some false) None None false false ∷ admissible 2 t2 550 None None ∷ []) [] ∷ []
   -- A lot that is cancelled after the opening is shown with tenders that weren't examined.
-  pub cancelled : told (by_price ++ cancels decided ∷ []) (evaluates Public n1 ∷ []) ≡ one_lot lot_in.Cancelled (waiting 1 t1 500 ∷ waiting 2 t2 550 ∷ []) [] ∷ []
+  pub cancelled : replies (by_price ++ cancels decided ∷ []) (evaluates Public n1 ∷ []) ≡ one_lot lot_in.Cancelled (waiting 1 t1 500 ∷ waiting 2 t2 550 ∷ []) [] ∷ []
   -- Of two lots, the public sees the tenders of the awarded one only.
-  pub lot_by_lot : told two_lots (evaluates Public n1 ∷ [])
+  pub lot_by_lot : replies two_lots (evaluates Public n1 ∷ [])
       ≡ EvaluationSeen n1
       (lot_seen l1 lot_in.Awarded (admissible 1 t1 300 None None ∷ [])
       (record { award = 1; notice = n1; lot = l1; receipt = 1; price = 300; moment = decided; state = award_in.Active } ∷ [])
@@ -137,5 +137,5 @@ pub record EvaluatingWorked : Type 0 where
       ∷ [])
       ∷ []
   -- A tender that was withdrawn late is still shown, but can't win any more.
-  pub withdrawn_late : told (two ++ opens deadline ∷ withdraws t1 hour_later 1 ∷ []) (evaluates Clerk n1 ∷ [])
+  pub withdrawn_late : replies (two ++ opens deadline ∷ withdraws t1 hour_later 1 ∷ []) (evaluates Clerk n1 ∷ [])
       ≡ one_lot lot_in.Undecided (tender 1 t1 (Priced 500 500 0) None None None false true ∷ waiting 2 t2 600 ∷ []) [] ∷ []

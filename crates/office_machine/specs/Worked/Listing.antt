@@ -24,7 +24,7 @@ use Rattle.office_machine.specs.Requests.{Request}
 use Rattle.office_machine.specs.Sights.{shown}
 use Rattle.office_machine.specs.Worked.Amending.{amend}
 use Rattle.office_machine.specs.Worked.Contracts.{ends, pays, raises, signed}
-use Rattle.office_machine.specs.Worked.Office.{by, by_clerk, deadline, enrol, february, l1, looks, lot, money, n1, n2, next_day, north, notice, numbered_name, opens, packages, presents, published, road_repair, setup, standstill_end, t1, t2, tenderers, told}
+use Rattle.office_machine.specs.Worked.Office.{by, by_clerk, deadline, enrol, february, l1, looks, lot, money, n1, n2, next_day, north, notice, numbered_name, opens, packages, presents, published, road_repair, setup, standstill_end, t1, t2, tenderers, replies}
 
 -- A query by this caller.
 abbrev pub sees : Caller → Query → Request
@@ -99,9 +99,9 @@ contract_is ended how released left =
 
 pub record ListingWorked : Type 0 where
   -- An empty office has no notices.
-  pub nothing_yet : told [] (sees Public (queries.Notices None) ∷ []) ≡ NoticesSeen None [] ∷ []
+  pub nothing_yet : replies [] (sees Public (queries.Notices None) ∷ []) ≡ NoticesSeen None [] ∷ []
   -- The published notice is on the first page and on the page after M, and not on the page after itself.
-  pub one_notice : told setup (sees Public (queries.Notices None) ∷ sees Public (queries.Notices (Some (codes "M"))) ∷ sees (Tenderer t1) (queries.Notices (Some n1)) ∷ [])
+  pub one_notice : replies setup (sees Public (queries.Notices None) ∷ sees Public (queries.Notices (Some (codes "M"))) ∷ sees (Tenderer t1) (queries.Notices (Some n1)) ∷ [])
       ≡ NoticesSeen None (road_repair ∷ []) ∷ NoticesSeen None (road_repair ∷ []) ∷ NoticesSeen None [] ∷ []
   -- Of 101 notices, the first page has a hundred, and its `next` is the last of them.
   pub first_page : page 101 None ≡ NoticesSeen (Some (numbered_name 65 99)) (notices_from 0 100)
@@ -110,43 +110,43 @@ pub record ListingWorked : Type 0 where
   -- A hundred notices are on one page.
   pub only_page : page 100 None ≡ NoticesSeen None (notices_from 0 100)
   -- The terms of the notice.
-  pub terms : told setup (sees Public (queries.Terms n1) ∷ sees Public (queries.Terms n2) ∷ []) ≡ TermsSeen road_repair false (north ∷ []) ∷ Refused (NoSuch things.Notice) ∷ []
+  pub terms : replies setup (sees Public (queries.Terms n1) ∷ sees Public (queries.Terms n2) ∷ []) ≡ TermsSeen road_repair false (north ∷ []) ∷ Refused (NoSuch things.Notice) ∷ []
   -- Points, late withdrawals and a performance security are terms.
-  pub strict_terms : told strict_setup (sees Public (queries.Terms n1) ∷ []) ≡ TermsSeen (record road_repair { weight = 60; performance = 70 }) true (north ∷ []) ∷ []
+  pub strict_terms : replies strict_setup (sees Public (queries.Terms n1) ∷ []) ≡ TermsSeen (record road_repair { weight = 60; performance = 70 }) true (north ∷ []) ∷ []
   -- An amended notice is listed with its deadline and with the numbers of its amendments and releases.
-  pub amended : told (setup ++ amend february next_day ∷ []) (sees Public (queries.Notices None) ∷ [])
+  pub amended : replies (setup ++ amend february next_day ∷ []) (sees Public (queries.Notices None) ∷ [])
       ≡ NoticesSeen None (record road_repair { deadline = next_day; amendments = 1; releases = 2 } ∷ []) ∷ []
   -- The terms of an opened notice have the moment of its opening.
-  pub opened : told (setup ++ opens deadline ∷ []) (sees Public (queries.Terms n1) ∷ [])
+  pub opened : replies (setup ++ opens deadline ∷ []) (sees Public (queries.Terms n1) ∷ [])
       ≡ TermsSeen (record road_repair { state = notice_in.Opened; opened = Some deadline; releases = 2 }) false (north ∷ []) ∷ []
   -- A tenderer sees all its own tenders for the notice, even those that it took back, and no other tenderer's.
-  pub own_tenders : told withdrawn (sees (Tenderer t1) (queries.OwnTenders n1) ∷ sees (Tenderer t2) (queries.OwnTenders n1) ∷ sees (Tenderer t1) (queries.OwnTenders n2) ∷ [])
+  pub own_tenders : replies withdrawn (sees (Tenderer t1) (queries.OwnTenders n1) ∷ sees (Tenderer t2) (queries.OwnTenders n1) ∷ sees (Tenderer t1) (queries.OwnTenders n2) ∷ [])
       ≡ OwnTendersSeen (own (codes "500") 3 1 envelope.Withdrawn ∷ own (codes "4500") 4 2 envelope.Withdrawn ∷ [])
       ∷ OwnTendersSeen []
       ∷ Refused (NoSuch things.Notice)
       ∷ []
   -- Only tenderers have own tenders.
-  pub tenderers_alone : told withdrawn (sees Clerk (queries.OwnTenders n1) ∷ sees Public (queries.OwnTenders n1) ∷ []) ≡ Refused Forbidden ∷ Refused Forbidden ∷ []
+  pub tenderers_alone : replies withdrawn (sees Clerk (queries.OwnTenders n1) ∷ sees Public (queries.OwnTenders n1) ∷ []) ≡ Refused Forbidden ∷ Refused Forbidden ∷ []
   -- While tenders are received, the clerk's list of securities names no tenderer.
-  pub securities_are_held : told (setup ++ presents t1 february (codes "500") ∷ []) (sees Clerk (queries.Securities n1) ∷ []) ≡ SecuritiesSeen (held_security None ∷ []) ∷ []
+  pub securities_are_held : replies (setup ++ presents t1 february (codes "500") ∷ []) (sees Clerk (queries.Securities n1) ∷ []) ≡ SecuritiesSeen (held_security None ∷ []) ∷ []
   -- After the opening, the list of securities names the tenderers.
-  pub then_named : told (setup ++ presents t1 february (codes "500") ∷ opens deadline ∷ []) (sees Clerk (queries.Securities n1) ∷ [])
+  pub then_named : replies (setup ++ presents t1 february (codes "500") ∷ opens deadline ∷ []) (sees Clerk (queries.Securities n1) ∷ [])
       ≡ SecuritiesSeen (held_security (Some t1) ∷ []) ∷ []
   -- Only the clerk sees the list of securities.
-  pub securities_are_the_clerks : told setup (sees (Tenderer t1) (queries.Securities n1) ∷ sees Public (queries.Securities n1) ∷ sees Clerk (queries.Securities n2) ∷ [])
+  pub securities_are_the_clerks : replies setup (sees (Tenderer t1) (queries.Securities n1) ∷ sees Public (queries.Securities n1) ∷ sees Clerk (queries.Securities n2) ∷ [])
       ≡ Refused Forbidden ∷ Refused Forbidden ∷ Refused (NoSuch things.Notice) ∷ []
   -- The clerk sees all registered tenderers, and nothing of their keys.
-  pub registered : told (enrol t1 (codes "Alpha") ∷ []) (sees Clerk (queries.Tenderers None) ∷ sees Clerk (queries.Tenderers (Some t1)) ∷ [])
+  pub registered : replies (enrol t1 (codes "Alpha") ∷ []) (sees Clerk (queries.Tenderers None) ∷ sees Clerk (queries.Tenderers (Some t1)) ∷ [])
       ≡ TenderersSeen None (alpha ∷ []) ∷ TenderersSeen None [] ∷ []
   -- In an empty office no tenderer is registered.
-  pub nobody_yet : told [] (sees Clerk (queries.Tenderers None) ∷ []) ≡ TenderersSeen None [] ∷ []
+  pub nobody_yet : replies [] (sees Clerk (queries.Tenderers None) ∷ []) ≡ TenderersSeen None [] ∷ []
   -- Only the clerk sees the list of tenderers.
-  pub tenderers_are_the_clerks : told setup (sees (Tenderer t1) (queries.Tenderers None) ∷ sees Public (queries.Tenderers None) ∷ []) ≡ Refused Forbidden ∷ Refused Forbidden ∷ []
+  pub tenderers_are_the_clerks : replies setup (sees (Tenderer t1) (queries.Tenderers None) ∷ sees Public (queries.Tenderers None) ∷ []) ≡ Refused Forbidden ∷ Refused Forbidden ∷ []
   -- The clerk and the contract's tenderer see the contract with its entries.
-  pub contract_runs : told running (sees Clerk (queries.Contract 1) ∷ sees (Tenderer t1) (queries.Contract 1) ∷ [])
+  pub contract_runs : replies running (sees Clerk (queries.Contract 1) ∷ sees (Tenderer t1) (queries.Contract 1) ∷ [])
       ≡ contract_is None None 0 450 ∷ contract_is None None 0 450 ∷ []
   -- The contract is shown after it has ended by default.
-  pub contract_ended : told (running ++ ends ForDefault ∷ []) (sees Clerk (queries.Contract 1) ∷ []) ≡ contract_is (Some standstill_end) (Some ForDefault) 450 0 ∷ []
+  pub contract_ended : replies (running ++ ends ForDefault ∷ []) (sees Clerk (queries.Contract 1) ∷ []) ≡ contract_is (Some standstill_end) (Some ForDefault) 450 0 ∷ []
   -- Nobody else sees the contract. A missing contract is reported first.
-  pub contract_is_theirs : told running (sees (Tenderer t2) (queries.Contract 1) ∷ sees Public (queries.Contract 1) ∷ sees (Tenderer t2) (queries.Contract 9) ∷ [])
+  pub contract_is_theirs : replies running (sees (Tenderer t2) (queries.Contract 1) ∷ sees Public (queries.Contract 1) ∷ sees (Tenderer t2) (queries.Contract 9) ∷ [])
       ≡ Refused NotYourTender ∷ Refused Forbidden ∷ Refused (NoSuch things.Contract) ∷ []

@@ -11,7 +11,7 @@ use Rattle.office_base.specs.declared.records.EnvelopeState.TheVariants as envel
 use Rattle.office_base.specs.declared.records.SecurityState.TheVariants as security_in
 use Rattle.office_machine.specs.Replies.{Package, Refused, Registry, Security, Tender}
 use Rattle.office_machine.specs.Requests.{Request}
-use Rattle.office_machine.specs.Worked.Office.{by, february, l1, looks, n1, n2, notice, presents, security, setup, t1, t2, told}
+use Rattle.office_machine.specs.Worked.Office.{by, february, l1, looks, n1, n2, notice, presents, security, setup, t1, t2, replies}
 
 -- A query for a tender.
 abbrev pub sees_tender : Caller → ℕ → Request
@@ -35,34 +35,34 @@ modified = setup ++ presents t1 february (codes "500") ∷ by t1 february (Modif
 
 pub record LookingWorked : Type 0 where
   -- A tenderer sees its own tender with its digest, and without its bytes.
-  pub own_tender : told modified (sees_tender (Tenderer t1) 1 ∷ sees_tender (Tenderer t1) 2 ∷ [])
+  pub own_tender : replies modified (sees_tender (Tenderer t1) 1 ∷ sees_tender (Tenderer t1) 2 ∷ [])
       ≡ Tender (codes "500") 3 n1 l1 february 1 (Some 1) envelope.Withdrawn
       ∷ Tender (codes "4500") 4 n1 l1 february 2 (Some 1) envelope.Sealed
       ∷ []
   -- Nobody else sees the tender, not even the clerk.
-  pub others_tender : told modified (sees_tender (Tenderer t2) 2 ∷ sees_tender Clerk 2 ∷ sees_tender Public 2 ∷ [])
+  pub others_tender : replies modified (sees_tender (Tenderer t2) 2 ∷ sees_tender Clerk 2 ∷ sees_tender Public 2 ∷ [])
       ≡ Refused NotYourTender ∷ Refused Forbidden ∷ Refused Forbidden ∷ []
   -- A tender that didn't come in doesn't exist.
-  pub no_such_tender : told modified (sees_tender (Tenderer t1) 99 ∷ []) ≡ Refused (NoSuch things.Tender) ∷ []
+  pub no_such_tender : replies modified (sees_tender (Tenderer t1) 99 ∷ []) ≡ Refused (NoSuch things.Tender) ∷ []
   -- The tenderer who named a security and the clerk see it.
-  pub security_is_held : told modified (sees_security (Tenderer t1) 1 ∷ sees_security Clerk 1 ∷ [])
+  pub security_is_held : replies modified (sees_security (Tenderer t1) 1 ∷ sees_security Clerk 1 ∷ [])
       ≡ Security 50 (codes "G1") 1 security_in.Held t1 ∷ Security 50 (codes "G1") 1 security_in.Held t1 ∷ []
   -- Nobody else sees the security. It has only the number of the first receipt.
-  pub others_security : told modified (sees_security (Tenderer t2) 1 ∷ sees_security Public 1 ∷ sees_security Clerk 2 ∷ [])
+  pub others_security : replies modified (sees_security (Tenderer t2) 1 ∷ sees_security Public 1 ∷ sees_security Clerk 2 ∷ [])
       ≡ Refused NotYourTender ∷ Refused Forbidden ∷ Refused (NoSuch things.Security) ∷ []
   -- The clerk sees the register, which shows no digest and no tenderer.
-  pub register_is_seen : told modified (sees_register Clerk n1 ∷ [])
+  pub register_is_seen : replies modified (sees_register Clerk n1 ∷ [])
       ≡ Registry n1
       (record { receipt = 1; lot = l1; moment = february; length = 3; state = envelope.Withdrawn }
       ∷ record { receipt = 2; lot = l1; moment = february; length = 4; state = envelope.Sealed }
       ∷ [])
       ∷ []
   -- Nobody else sees the register.
-  pub register_is_the_clerks : told modified (sees_register (Tenderer t1) n1 ∷ sees_register Public n1 ∷ sees_register Clerk n2 ∷ [])
+  pub register_is_the_clerks : replies modified (sees_register (Tenderer t1) n1 ∷ sees_register Public n1 ∷ sees_register Clerk n2 ∷ [])
       ≡ Refused Forbidden ∷ Refused Forbidden ∷ Refused (NoSuch things.Notice) ∷ []
   -- There are no minutes before the opening.
-  pub no_minutes_yet : told modified (public_sees (queries.Minutes n1) ∷ public_sees (queries.Minutes n2) ∷ [])
+  pub no_minutes_yet : replies modified (public_sees (queries.Minutes n1) ∷ public_sees (queries.Minutes n2) ∷ [])
       ≡ Refused NotOpened ∷ Refused (NoSuch things.Notice) ∷ []
   -- Everyone sees the packages of published releases.
-  pub packages_are_seen : told modified (public_sees (queries.Releases n1) ∷ public_sees (queries.Record n1) ∷ public_sees (queries.Record n2) ∷ [])
+  pub packages_are_seen : replies modified (public_sees (queries.Releases n1) ∷ public_sees (queries.Record n1) ∷ public_sees (queries.Record n2) ∷ [])
       ≡ Package [] ∷ Package [] ∷ Refused (NoSuch things.Notice) ∷ []

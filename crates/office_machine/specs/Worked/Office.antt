@@ -34,7 +34,8 @@ use Rattle.office_base.specs.declared.records.SecurityRow.{SecurityRow}
 use Rattle.office_base.specs.declared.records.SecurityState.{SecurityState}
 use Rattle.tender_papers.specs.WorkedPapers.{worked_notice}
 use Rattle.office_machine.specs.Machine.{Given, Means}
-use Rattle.office_machine.specs.Replies.{Refused, Reply}
+use Rattle.office_machine.specs.QueryOrder.{refusal_in}
+use Rattle.office_machine.specs.Replies.{Reply}
 use Rattle.office_machine.specs.Requests.{Asks, Looks, Request, all_accepted, last_office, office_after, reply_to}
 use Rattle.office_machine.specs.Sights.{Packages}
 
@@ -278,22 +279,17 @@ abbrev pub office : List Request → Tables
 office asked = last_office means no_tables asked
 
 -- The replies to these requests in an office.
-abbrev pub told_in : Tables → List Request → List Reply
-told_in s [] = []
-told_in s (a ∷ rest) = reply_to means packages s a ∷ told_in (office_after means s a) rest
+abbrev pub replies_in : Tables → List Request → List Reply
+replies_in s [] = []
+replies_in s (a ∷ rest) = reply_to means packages s a ∷ replies_in (office_after means s a) rest
 
 -- The replies to these requests after earlier ones.
-abbrev pub told : List Request → List Request → List Reply
-told earlier asked = told_in (office earlier) asked
-
--- The refusal in a reply, if it is one.
-abbrev pub refusal_in : Reply → Option Refusal
-refusal_in (Refused why) = Some why
-refusal_in _ = None
+abbrev pub replies : List Request → List Request → List Reply
+replies earlier asked = replies_in (office earlier) asked
 
 -- The refusals of these requests after earlier ones, each None if the request isn't refused.
 abbrev pub refused : List Request → List Request → List (Option Refusal)
-refused earlier asked = map refusal_in (told earlier asked)
+refused earlier asked = map refusal_in (replies earlier asked)
 
 -- The appropriation and the balances of the roads after these requests.
 abbrev pub pots : List Request → Option Pots

@@ -14,7 +14,7 @@ use Rattle.office_base.specs.declared.records.NoticeState.TheVariants as notice_
 use Rattle.office_base.specs.declared.records.ReleaseRow.{ReleaseRow}
 use Rattle.office_machine.specs.Replies.{Minuted, Minutes, OpenedAll, Refused}
 use Rattle.office_machine.specs.Requests.{Request}
-use Rattle.office_machine.specs.Worked.Office.{by, cancels, deadline, february, l1, looks, money, n1, north, office, opens, presents, refused, road_repair, setup, states_of_tenders, t1, t2, t3, tendered, told, two_notices}
+use Rattle.office_machine.specs.Worked.Office.{by, cancels, deadline, february, l1, looks, money, n1, north, office, opens, presents, refused, road_repair, setup, states_of_tenders, t1, t2, t3, tendered, replies, two_notices}
 
 -- The public asks for the minutes.
 abbrev pub sees_minutes : Request
@@ -52,22 +52,22 @@ minuted receipt who name reading = record {
 
 pub record OpeningWorked : Type 0 where
   -- Tenders aren't opened one second before the deadline.
-  pub too_early : told tendered (opens (deadline - 1) ∷ []) ≡ Refused TooEarlyToOpen ∷ []
+  pub too_early : replies tendered (opens (deadline - 1) ∷ []) ≡ Refused TooEarlyToOpen ∷ []
   -- Tenders are opened at the deadline, and only once.
-  pub at_deadline : told tendered (opens deadline ∷ opens deadline ∷ []) ≡ OpenedAll n1 2 2 deadline ∷ Refused AlreadyOpened ∷ []
+  pub at_deadline : replies tendered (opens deadline ∷ opens deadline ∷ []) ≡ OpenedAll n1 2 2 deadline ∷ Refused AlreadyOpened ∷ []
   -- A notice without tenders is opened too.
-  pub without_tenders : told setup (opens deadline ∷ []) ≡ OpenedAll n1 0 2 deadline ∷ []
+  pub without_tenders : replies setup (opens deadline ∷ []) ≡ OpenedAll n1 0 2 deadline ∷ []
   -- A notice that doesn't exist can't be opened.
-  pub no_such_notice : told money (opens deadline ∷ []) ≡ Refused (NoSuch things.Notice) ∷ []
+  pub no_such_notice : replies money (opens deadline ∷ []) ≡ Refused (NoSuch things.Notice) ∷ []
   -- A cancelled notice can't be opened.
   pub not_once_cancelled : refused tendered (cancels february ∷ opens deadline ∷ []) ≡ None ∷ Some NotOpenForTenders ∷ []
   -- After the opening everyone sees the minutes: the tenderers, and how each tender was read.
-  pub minutes_are_seen : told (tendered ++ opens deadline ∷ []) (sees_minutes ∷ [])
+  pub minutes_are_seen : replies (tendered ++ opens deadline ∷ []) (sees_minutes ∷ [])
       ≡ Minutes (notice_opened deadline 2) (north ∷ [])
       (minuted 1 t1 (codes "Alpha") (Priced 500 500 0) ∷ minuted 2 t2 (codes "Beta") (Priced 550 550 0) ∷ [])
       ∷ []
   -- A withdrawn tender and a late one aren't opened, and aren't in the minutes.
-  pub one_is_opened : told one_of_three (opens (deadline + 2) ∷ sees_minutes ∷ [])
+  pub one_is_opened : replies one_of_three (opens (deadline + 2) ∷ sees_minutes ∷ [])
       ≡ OpenedAll n1 1 2 (deadline + 2)
       ∷ Minutes (notice_opened (deadline + 2) 2) (north ∷ []) (minuted 2 t2 (codes "Beta") (Priced 550 550 0) ∷ [])
       ∷ []

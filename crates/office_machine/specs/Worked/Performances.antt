@@ -11,7 +11,7 @@ use Rattle.office_base.specs.declared.records.SecurityState.TheVariants as secur
 use Rattle.office_machine.specs.Fates.{fate_of_performance}
 use Rattle.office_machine.specs.Replies.{Refused, Signed}
 use Rattle.office_machine.specs.Requests.{Request}
-use Rattle.office_machine.specs.Worked.Office.{accepted, awarded, awards, by_clerk, deadline, decided, demanding, examines, february, l1, lot, money, n1, office, opens, pots, pots_are, presents, published, secured, standstill_end, t1, tenderers, told}
+use Rattle.office_machine.specs.Worked.Office.{accepted, awarded, awards, by_clerk, deadline, decided, demanding, examines, february, l1, lot, money, n1, office, opens, pots, pots_are, presents, published, secured, standstill_end, t1, tenderers, replies}
 
 -- A notice asks for a performance security of 70, and its lot is awarded at 600.
 abbrev pub won : List Request
@@ -43,7 +43,7 @@ states_of_performances asked = map (λ (w : PerformanceRow). w.state) (office as
 
 pub record PerformancesWorked : Type 0 where
   -- A signing needs a security, 69 are too little, and 70 are enough.
-  pub is_asked : told won (signs_with None ∷ signs_with (p1 69) ∷ signs_with (p1 70) ∷ [])
+  pub is_asked : replies won (signs_with None ∷ signs_with (p1 69) ∷ signs_with (p1 70) ∷ [])
       ≡ Refused SecurityMissing ∷ Refused SecurityTooSmall ∷ Signed 1 4 standstill_end ∷ []
   -- The security has the number of its contract, and is held.
   pub row_is : (office (won ++ signs_with (p1 70) ∷ [])).performances ≡ record { contract = 1; reference = codes "P1"; amount = 70; state = security_in.Held } ∷ []
@@ -51,9 +51,9 @@ pub record PerformancesWorked : Type 0 where
   pub returned : states_of_performances (won ++ signs_with (p1 70) ∷ ends hows.Regular ∷ []) ≡ security_in.Returned ∷ []
   -- A default forfeits the security; a second end is refused and changes nothing.
   pub forfeited : states_of_performances (won ++ signs_with (p1 70) ∷ ends hows.ForDefault ∷ ends hows.Regular ∷ []) ≡ security_in.Forfeited ∷ []
-  pub ended_once : told (won ++ signs_with (p1 70) ∷ ends hows.ForDefault ∷ []) (ends hows.Regular ∷ []) ≡ Refused ContractEnded ∷ []
+  pub ended_once : replies (won ++ signs_with (p1 70) ∷ ends hows.ForDefault ∷ []) (ends hows.Regular ∷ []) ≡ Refused ContractEnded ∷ []
   -- If the notice asks for no performance security, none may be named, and no row exists.
-  pub isnt_asked : told awarded (signs_with (p1 70) ∷ signs_with None ∷ []) ≡ Refused SecurityNotAsked ∷ Signed 1 4 standstill_end ∷ []
+  pub isnt_asked : replies awarded (signs_with (p1 70) ∷ signs_with None ∷ []) ≡ Refused SecurityNotAsked ∷ Signed 1 4 standstill_end ∷ []
   pub none_there : (office (awarded ++ signs_with None ∷ ends hows.Regular ∷ [])).performances ≡ []
   -- A performance security moves no money.
   pub moves_nothing : pots (won ++ signs_with (p1 70) ∷ ends hows.ForDefault ∷ []) ≡ pots_are 1000 1000 0 0 0

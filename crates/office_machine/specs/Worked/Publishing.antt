@@ -11,7 +11,7 @@ use Rattle.office_values.specs.declared.refusal.Thing.TheVariants as things
 use Rattle.office_base.specs.Joined.{ledger_of}
 use Rattle.office_machine.specs.Replies.{OfNotice, Refused}
 use Rattle.office_machine.specs.Requests.{Request}
-use Rattle.office_machine.specs.Worked.Office.{by_clerk, deadline, february, january, l1, l2, lot, money, n1, n2, north, notice, numbered_name, office, pots, pots_are, publish, published, road_repair, roads, row, setup, told}
+use Rattle.office_machine.specs.Worked.Office.{by_clerk, deadline, february, january, l1, l2, lot, money, n1, n2, north, notice, numbered_name, office, pots, pots_are, publish, published, road_repair, roads, row, setup, replies}
 
 -- Two lots of 600 and 400.
 abbrev pub two_lots : Request
@@ -53,11 +53,11 @@ elsewhere id = by_clerk february (Publish id (notice deadline Price (record (lot
 
 pub record PublishingWorked : Type 0 where
   -- Two lots may take all free money.
-  pub two_lots_are_published : told money (two_lots ∷ []) ≡ OfNotice n1 1 published ∷ []
+  pub two_lots_are_published : replies money (two_lots ∷ []) ≡ OfNotice n1 1 published ∷ []
   -- Then all money is reserved.
   pub all_is_reserved : pots (money ++ two_lots ∷ []) ≡ pots_are 1000 0 1000 0 0
   -- Two lots may not take one unit more than the free money.
-  pub one_unit_more_is_refused : told money (one_too_much ∷ []) ≡ Refused InsufficientFunds ∷ []
+  pub one_unit_more_is_refused : replies money (one_too_much ∷ []) ≡ Refused InsufficientFunds ∷ []
   -- After this refusal all money is still free.
   pub all_stays_free : pots (money ++ one_too_much ∷ []) ≡ pots_are 1000 1000 0 0 0
   -- After this refusal no lot is stored.
@@ -68,21 +68,21 @@ pub record PublishingWorked : Type 0 where
       ∷ record { line = parks; pots = record { appropriation = 50; free = 0; reserved = 50; contracted = 0; paid = 0 } }
       ∷ []
   -- A notice can't be published at its deadline.
-  pub deadline_is_to_come : told money (by_clerk deadline (Publish n1 (notice deadline Price (lot l1 600 ∷ []))) ∷ []) ≡ Refused DeadlinePassed ∷ []
+  pub deadline_is_to_come : replies money (by_clerk deadline (Publish n1 (notice deadline Price (lot l1 600 ∷ []))) ∷ []) ≡ Refused DeadlinePassed ∷ []
   -- A notice can't be published with a lot on a line that doesn't exist, even if its identifier is taken too.
-  pub unknown_line : told setup (elsewhere n1 ∷ elsewhere n2 ∷ []) ≡ Refused (NoSuch things.Line) ∷ Refused (NoSuch things.Line) ∷ []
+  pub unknown_line : replies setup (elsewhere n1 ∷ elsewhere n2 ∷ []) ≡ Refused (NoSuch things.Line) ∷ Refused (NoSuch things.Line) ∷ []
   -- A notice whose identifier is taken can't be published.
-  pub not_twice : told setup (two_lots ∷ []) ≡ Refused Exists ∷ []
+  pub not_twice : replies setup (two_lots ∷ []) ≡ Refused Exists ∷ []
   -- A notice may have 20 lots.
-  pub twenty_lots : told money (publish Price (small_lots 20) ∷ []) ≡ OfNotice n1 1 published ∷ []
+  pub twenty_lots : replies money (publish Price (small_lots 20) ∷ []) ≡ OfNotice n1 1 published ∷ []
   -- Each of the 20 lots reserves its estimate.
   pub twenty_are_reserved : pots (money ++ publish Price (small_lots 20) ∷ []) ≡ pots_are 1000 980 20 0 0
   -- A notice can't have 21 lots.
-  pub twenty_one_lots : told money (publish Price (small_lots 21) ∷ []) ≡ Refused LimitReached ∷ []
+  pub twenty_one_lots : replies money (publish Price (small_lots 21) ∷ []) ≡ Refused LimitReached ∷ []
   -- A lot may have 50 items.
-  pub fifty_items : told money (publish Price (lot_with 50 ∷ []) ∷ []) ≡ OfNotice n1 1 published ∷ []
+  pub fifty_items : replies money (publish Price (lot_with 50 ∷ []) ∷ []) ≡ OfNotice n1 1 published ∷ []
   -- A lot can't have 51 items.
-  pub fifty_one_items : told money (publish Price (lot_with 51 ∷ []) ∷ []) ≡ Refused LimitReached ∷ []
+  pub fifty_one_items : replies money (publish Price (lot_with 51 ∷ []) ∷ []) ≡ Refused LimitReached ∷ []
   -- The row of the published notice.
   pub notice_is : (office setup).notices ≡ road_repair ∷ []
   -- The row of its lot.

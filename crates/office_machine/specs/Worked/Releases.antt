@@ -10,7 +10,7 @@ use Rattle.office_base.specs.declared.records.NoticeRow.{NoticeRow}
 use Rattle.office_base.specs.declared.records.ReleaseRow.{ReleaseRow}
 use Rattle.office_machine.specs.Replies.{OpenedAll, Received, Refused}
 use Rattle.office_machine.specs.Requests.{Request}
-use Rattle.office_machine.specs.Worked.Office.{awarded, awards, by_clerk, cancels, deadline, decided, examined, fails, february, n1, next_day, office, opens, presents, published, setup, signs, standstill_end, t1, tendered, told_in}
+use Rattle.office_machine.specs.Worked.Office.{awarded, awards, by_clerk, cancels, deadline, decided, examined, fails, february, n1, next_day, office, opens, presents, published, setup, signs, standstill_end, t1, tendered, replies_in}
 
 -- The office after these requests, when the notice has so many releases.
 abbrev pub with_releases : List Request → ℕ → Tables
@@ -69,15 +69,15 @@ pub record ReleasesWorked : Type 0 where
   pub never_fall : moments (signed ++ earlier_end ∷ []) ≡ published ∷ deadline ∷ decided ∷ standstill_end ∷ standstill_end ∷ []
   pub clock_stands : (office (signed ++ earlier_end ∷ [])).clock.moment ≡ standstill_end
   -- A notice has at most 9,999 releases: then its deadline can't be moved, and it can be neither cancelled nor opened.
-  pub no_more_of_notice : told_in (full tendered) (by_clerk february (AmendNotice n1 next_day (codes "More time")) ∷ cancels february ∷ opens deadline ∷ [])
+  pub no_more_of_notice : replies_in (full tendered) (by_clerk february (AmendNotice n1 next_day (codes "More time")) ∷ cancels february ∷ opens deadline ∷ [])
       ≡ replicate 3 (Refused LimitReached)
   -- Then no lot can be awarded.
-  pub no_award : told_in (full examined) (awards decided ∷ []) ≡ Refused LimitReached ∷ []
+  pub no_award : replies_in (full examined) (awards decided ∷ []) ≡ Refused LimitReached ∷ []
   -- Then an award can neither be signed nor fail.
-  pub no_signing : told_in (full awarded) (signs standstill_end 1 ∷ fails standstill_end 1 ∷ []) ≡ replicate 2 (Refused LimitReached)
+  pub no_signing : replies_in (full awarded) (signs standstill_end 1 ∷ fails standstill_end 1 ∷ []) ≡ replicate 2 (Refused LimitReached)
   -- Then a contract can't be raised, paid or ended.
-  pub no_more_of_contract : told_in (full signed) (raise ∷ pay ∷ end ∷ []) ≡ replicate 3 (Refused LimitReached)
+  pub no_more_of_contract : replies_in (full signed) (raise ∷ pay ∷ end ∷ []) ≡ replicate 3 (Refused LimitReached)
   -- A command that publishes nothing is still accepted.
-  pub tenders_come : told_in (full setup) (presents t1 february (codes "500") ∷ []) ≡ Received (codes "500") 1 (Some 1) envelope.Sealed february ∷ []
+  pub tenders_come : replies_in (full setup) (presents t1 february (codes "500") ∷ []) ≡ Received (codes "500") 1 (Some 1) envelope.Sealed february ∷ []
   -- The last release is the 9,999th.
-  pub last_one : told_in (with_releases tendered 9998) (opens deadline ∷ []) ≡ OpenedAll n1 2 9999 deadline ∷ []
+  pub last_one : replies_in (with_releases tendered 9998) (opens deadline ∷ []) ≡ OpenedAll n1 2 9999 deadline ∷ []

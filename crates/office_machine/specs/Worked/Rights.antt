@@ -9,7 +9,7 @@ use Rattle.office_commands.specs.declared.notice.Criteria.TheVariants.{Price}
 use Rattle.office_values.specs.declared.refusal.Refusal.TheVariants.{Forbidden}
 use Rattle.office_machine.specs.Replies.{Refused}
 use Rattle.office_machine.specs.Requests.{Asks, Request}
-use Rattle.office_machine.specs.Worked.Office.{by, by_clerk, february, l1, lot, money, n1, n2, next_day, notice, security, t1, tendered, told}
+use Rattle.office_machine.specs.Worked.Office.{by, by_clerk, february, l1, lot, money, n1, n2, next_day, notice, security, t1, tendered, replies}
 
 -- All commands of the clerk.
 abbrev pub commands_of_clerk : List Command
@@ -39,11 +39,11 @@ by_public command = record { moment = february; caller = Public; demand = Asks c
 
 pub record RightsWorked : Type 0 where
   -- The public may give no command.
-  pub public_commands_nothing : told tendered (map by_public (commands_of_clerk ++ commands_of_tenderer)) ≡ replicate 16 (Refused Forbidden)
+  pub public_commands_nothing : replies tendered (map by_public (commands_of_clerk ++ commands_of_tenderer)) ≡ replicate 16 (Refused Forbidden)
   -- A tenderer may give no command of the clerk.
-  pub tenderer_is_no_clerk : told tendered (map (by t1 february) commands_of_clerk) ≡ replicate 13 (Refused Forbidden)
+  pub tenderer_is_no_clerk : replies tendered (map (by t1 february) commands_of_clerk) ≡ replicate 13 (Refused Forbidden)
   -- The clerk may give no command of a tenderer.
-  pub clerk_is_no_tenderer : told tendered (map (by_clerk february) commands_of_tenderer) ≡ replicate 3 (Refused Forbidden)
+  pub clerk_is_no_tenderer : replies tendered (map (by_clerk february) commands_of_tenderer) ≡ replicate 3 (Refused Forbidden)
   -- A caller who may not give a command doesn't learn whether the thing exists that it names.
-  pub nothing_is_told : told money (by_public (Open n1) ∷ by t1 february (Pay 99 (codes "E1") 1) ∷ by_clerk february (Withdraw 99) ∷ [])
+  pub nothing_is_told : replies money (by_public (Open n1) ∷ by t1 february (Pay 99 (codes "E1") 1) ∷ by_clerk february (Withdraw 99) ∷ [])
       ≡ replicate 3 (Refused Forbidden)

@@ -17,7 +17,7 @@ use Rattle.office_machine.specs.Requests.{AreRequests, Request}
 use Rattle.office_machine.specs.Seals.{ReleasesHideSeals, SameButSeals, PackagesHideSeals, without_digest}
 use Rattle.office_machine.specs.Worlds.{ChosenTender}
 use Rattle.office_machine.specs.Worked.Listing.{held_security, own}
-use Rattle.office_machine.specs.Worked.Office.{accepted, awards, by, deadline, decided, february, l1, looks, means, n1, north, office, opens, packages, presents, road_repair, setup, t1, t2, told}
+use Rattle.office_machine.specs.Worked.Office.{accepted, awards, by, deadline, decided, february, l1, looks, means, n1, north, office, opens, packages, presents, road_repair, setup, t1, t2, replies}
 
 -- T1 is the chosen tenderer, and N1's lot is the chosen lot.
 abbrev pub theirs : ChosenTender
@@ -96,11 +96,11 @@ pub record SealsWorked : Type 0 where
   -- Packages without a text reveal nothing.
   pub sees_blindly : PackagesHideSeals packages
   -- The replies to the one run.
-  pub first_is_told : told setup one ≡ telling (codes "500") (codes "4500")
+  pub first_is_told : replies setup one ≡ telling (codes "500") (codes "4500")
   -- The replies to the other run differ only in digests, which only T1 sees.
-  pub other_is_told : told setup other ≡ telling (codes "abc") (codes "abcd")
+  pub other_is_told : replies setup other ≡ telling (codes "abc") (codes "abcd")
   -- Without digests the replies are equal.
-  pub alike_but_digests : map without_digest (told setup other) ≡ map without_digest (told setup one)
+  pub alike_but_digests : map without_digest (replies setup other) ≡ map without_digest (replies setup one)
   -- Both tenders are withdrawn in the end, so the opening and the award reveal nothing either.
   pub both_are_withdrawn : map (fate_of_tender (accepted (setup ++ one))) (1 ∷ 2 ∷ []) ≡ Some envelope.Withdrawn ∷ Some envelope.Withdrawn ∷ []
   -- A tender that is still sealed at the opening is read then.

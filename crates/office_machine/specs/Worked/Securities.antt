@@ -9,7 +9,7 @@ use Rattle.office_base.specs.declared.records.SecurityState.{SecurityState}
 use Rattle.office_base.specs.declared.records.SecurityState.TheVariants as security_in
 use Rattle.office_machine.specs.Replies.{Received, Refused}
 use Rattle.office_machine.specs.Requests.{Request}
-use Rattle.office_machine.specs.Worked.Office.{awarded, awards, by, by_clerk, cancels, deadline, decided, examines, fails, february, l1, l2, lot, money, n1, office, opens, presents, publish, second_end, secured, security, setup, signs, standstill_end, states_of_securities, t1, t2, tendered, tenderers, told}
+use Rattle.office_machine.specs.Worked.Office.{awarded, awards, by, by_clerk, cancels, deadline, decided, examines, fails, february, l1, l2, lot, money, n1, office, opens, presents, publish, second_end, secured, security, setup, signs, standstill_end, states_of_securities, t1, t2, tendered, tenderers, replies}
 
 -- T1 submits a tender with this security, or with none.
 abbrev pub presents_with : Option NamedSecurity → ℕ → Request
@@ -39,18 +39,18 @@ states rest = states_of_securities (awarded ++ rest)
 
 pub record SecuritiesWorked : Type 0 where
   -- The lot asks for a security of 50, so a tender must name one.
-  pub is_missing : told setup (presents_with None february ∷ []) ≡ Refused SecurityMissing ∷ []
+  pub is_missing : replies setup (presents_with None february ∷ []) ≡ Refused SecurityMissing ∷ []
   -- A security of 49 is too small.
-  pub is_too_small : told setup (presents_with (secured (codes "G1") 49) february ∷ []) ≡ Refused SecurityTooSmall ∷ []
+  pub is_too_small : replies setup (presents_with (secured (codes "G1") 49) february ∷ []) ≡ Refused SecurityTooSmall ∷ []
   -- A security of 50 is enough.
-  pub is_enough : told setup (presents_with (secured (codes "G1") 50) february ∷ []) ≡ Received (codes "500") 1 (Some 1) envelope.Sealed february ∷ []
+  pub is_enough : replies setup (presents_with (secured (codes "G1") 50) february ∷ []) ≡ Received (codes "500") 1 (Some 1) envelope.Sealed february ∷ []
   -- A security of 51 is enough.
-  pub is_more : told setup (presents_with (secured (codes "G1") 51) february ∷ []) ≡ Received (codes "500") 1 (Some 1) envelope.Sealed february ∷ []
+  pub is_more : replies setup (presents_with (secured (codes "G1") 51) february ∷ []) ≡ Received (codes "500") 1 (Some 1) envelope.Sealed february ∷ []
   -- If the lot asks for no security, none may be named.
-  pub is_not_asked : told unsecured (presents_with security february ∷ presents_with None february ∷ [])
+  pub is_not_asked : replies unsecured (presents_with security february ∷ presents_with None february ∷ [])
       ≡ Refused SecurityNotAsked ∷ Received (codes "500") 1 None envelope.Sealed february ∷ []
   -- A late tender is returned, whether or not it names a security.
-  pub late_without : told setup (presents_with None (deadline + 1) ∷ presents_with (secured (codes "G1") 1) (deadline + 1) ∷ [])
+  pub late_without : replies setup (presents_with None (deadline + 1) ∷ presents_with (secured (codes "G1") 1) (deadline + 1) ∷ [])
       ≡ Received (codes "500") 1 None envelope.Returned (deadline + 1)
       ∷ Received (codes "500") 2 (Some 2) envelope.Returned (deadline + 1)
       ∷ []

@@ -13,7 +13,7 @@ use Rattle.office_machine.specs.Machine.{Reaches}
 use Rattle.office_machine.specs.Moves.{Contracted, Free, Move, Outside, Paid, Pot, Reserved, inflow, moves, outflow}
 use Rattle.office_machine.specs.Replies.{Awarded, Enrolled, Examined, Failed, Imported, OfContract, OfNotice, OpenedAll, Received, Signed, Withdrew}
 use Rattle.office_machine.specs.Requests.{AreRequests, Request}
-use Rattle.office_machine.specs.Worked.Office.{accepted, awards, by, by_clerk, cancels, decided, examines, fails, february, january, l1, l2, lot, means, money, n1, office, opens, pots, pots_are, presents, publish, published, roads, second_end, signs, standstill_end, states_of_lots, t1, t2, t3, tenderers, told}
+use Rattle.office_machine.specs.Worked.Office.{accepted, awards, by, by_clerk, cancels, decided, examines, fails, february, january, l1, l2, lot, means, money, n1, office, opens, pots, pots_are, presents, publish, published, roads, second_end, signs, standstill_end, states_of_lots, t1, t2, t3, tenderers, replies}
 
 -- 2026-03-01T18:00:00Z, to which the deadline is moved.
 abbrev pub evening : ℕ
@@ -57,7 +57,7 @@ moved from to amount = record { line = roads; from = from; to = to; amount = amo
 
 pub record WholeRunWorked : Type 0 where
   -- All requests of the preparation are accepted, with these replies.
-  pub preparation_is_told : told [] preparation
+  pub preparation_is_told : replies [] preparation
       ≡ Imported (codes "B1") 1 january
       ∷ Enrolled t1 january
       ∷ Enrolled t2 january
@@ -65,7 +65,7 @@ pub record WholeRunWorked : Type 0 where
       ∷ OfNotice n1 1 published
       ∷ []
   -- The replies to the requests of the competition.
-  pub competition_is_told : told preparation competition
+  pub competition_is_told : replies preparation competition
       ≡ OfNotice n1 2 february
       ∷ Received (codes "500") 1 (Some 1) envelope.Sealed february
       ∷ Received (codes "550/540") 2 (Some 2) envelope.Sealed february
@@ -74,7 +74,7 @@ pub record WholeRunWorked : Type 0 where
       ∷ Withdrew 3 envelope.Withdrawn february
       ∷ []
   -- The replies to the requests of the decision.
-  pub decision_is_told : told (preparation ++ competition) decision
+  pub decision_is_told : replies (preparation ++ competition) decision
       ≡ OpenedAll n1 2 3 evening
       ∷ Examined 2 true decided
       ∷ Examined 4 true decided
@@ -84,7 +84,7 @@ pub record WholeRunWorked : Type 0 where
       ∷ Signed 2 7 second_end
       ∷ []
   -- The replies to the requests about the contract and the cancellation.
-  pub execution_is_told : told (preparation ++ competition ++ decision) execution
+  pub execution_is_told : replies (preparation ++ competition ++ decision) execution
       ≡ OfContract 2 600 8 second_end
       ∷ OfContract 2 400 9 second_end
       ∷ OfContract 2 0 10 second_end

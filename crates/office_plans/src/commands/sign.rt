@@ -121,8 +121,8 @@ fn release<H: Lookups>(
 }
 
 /// Plans the signing of a contract, with a performance security if one is named. A refusal needs no memory except for the rows.
-/// `Unavailable` also if a contract has the award's number or rows of one are there, the security of its tender is missing, or its lot reserves another
-/// amount than its price.
+/// `Unavailable` also if a contract, an entry or a performance security already has the award's number. So it is if the security of its tender is missing, or
+/// if its lot reserves another amount than its price.
 pub fn plan<H: Lookups>(
     alloc: Global,
     shelf: &mut H,

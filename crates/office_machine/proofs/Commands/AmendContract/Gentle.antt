@@ -1,4 +1,4 @@
--- A change of a contract over any tables makes no parent of rows that are there without it, and replaces no row of another owner.
+-- Over any tables, a change of a contract makes no missing parent of a row, and replaces no row of another owner.
 use Rattle.std.specs.Prelude.{max, ℕ, ◌+◌, ◌-◌, false, ◌≡◌, List, Option, Some, None}
 use Rattle.std.proofs.Common.{refl}
 use Rattle.std.specs.List.{list_any}

@@ -1,4 +1,4 @@
--- An award over any tables makes no parent of rows that are there without it, and replaces no row of another owner.
+-- Over any tables, an award makes no missing parent of a row, and replaces no row of another owner.
 use Rattle.std.specs.Prelude.{max, ℕ, ◌+◌, ◌-◌, false, ◌&&◌, ◌||◌, ◌≡◌, List, Option, Some, None, is_some}
 use Rattle.std.proofs.Common.{refl}
 use Rattle.office_base.specs.Parents.{line_of_lot}

@@ -1,4 +1,4 @@
--- An examination over any tables makes no parent of rows that are there without it, and replaces no row of another owner.
+-- Over any tables, an examination makes no missing parent of a row, and replaces no row of another owner.
 use Rattle.std.specs.Prelude.{max, ℕ, Bool, ◌≡◌, Option, Some, None}
 use Rattle.std.proofs.Common.{refl}
 use Rattle.office_base.specs.Tables.{Tables, envelope_at}

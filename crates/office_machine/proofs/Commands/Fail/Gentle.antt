@@ -1,4 +1,4 @@
--- A failed award over any tables makes no parent of rows that are there without it, and replaces no row of another owner.
+-- Over any tables, a failed award makes no missing parent of a row, and replaces no row of another owner.
 use Rattle.std.specs.Prelude.{max, ℕ, ◌≡◌, Option, Some, None}
 use Rattle.std.proofs.Common.{refl}
 use Rattle.office_base.specs.Parents.{notice_of_award, lot_of_award, envelope_of_award, security_of_envelope}

@@ -1,4 +1,4 @@
--- A budget import over any tables makes no parent of rows that are there without it, and replaces no row of another owner.
+-- Over any tables, a budget import makes no missing parent of a row, and replaces no row of another owner.
 use Rattle.std.specs.Prelude.{ℕ, false, ◌≡◌, List, [], ◌∷◌, map}
 use Rattle.std.proofs.Common.{refl}
 use Rattle.std.specs.List.{AllByRecursion, list_any}

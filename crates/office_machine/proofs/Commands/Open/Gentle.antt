@@ -1,4 +1,4 @@
--- An opening over any tables makes no parent of rows that are there without it, and replaces no row of another owner.
+-- Over any tables, an opening makes no missing parent of a row, and replaces no row of another owner.
 use Rattle.std.specs.Prelude.{max, ℕ, ◌≡◌, List, [], ◌∷◌, Option, Some, None, map, filter}
 use Rattle.std.proofs.Common.{refl}
 use Rattle.std.specs.List.{AllByRecursion}

@@ -1,4 +1,4 @@
--- A payment over any tables makes no parent of rows that are there without it, and replaces no row of another owner.
+-- Over any tables, a payment makes no missing parent of a row, and replaces no row of another owner.
 use Rattle.std.specs.Prelude.{max, ℕ, false, ◌≡◌, List, Option, Some, None}
 use Rattle.std.proofs.Common.{refl}
 use Rattle.std.specs.List.{list_any}

@@ -1,4 +1,4 @@
--- A tender over any tables makes no parent of rows that are there without it, and replaces no row of another owner.
+-- Over any tables, a tender makes no missing parent of a row, and replaces no row of another owner.
 use Rattle.std.specs.Prelude.{max, ℕ, Bool, List, Option}
 use Rattle.std.proofs.Common.{refl}
 use Rattle.office_commands.specs.declared.tender.NamedSecurity.{NamedSecurity}

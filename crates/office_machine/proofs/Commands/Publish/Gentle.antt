@@ -1,4 +1,4 @@
--- A publication over any tables makes no parent of rows that are there without it, and replaces no row of another owner.
+-- Over any tables, a publication makes no missing parent of a row, and replaces no row of another owner.
 use Rattle.std.specs.Prelude.{max, ℕ, Bool, true, false, cond, ◌&&◌, ◌||◌, ◌≡◌, List, [], ◌∷◌, ◌++◌, Some, is_some, map, filter}
 use Rattle.std.proofs.Common.{refl, sym, ◌∙◌, ap}
 use Rattle.std.specs.List.{AllByRecursion, list_any}

@@ -1,4 +1,4 @@
--- A signing over any tables makes no parent of rows that are there without it, and replaces no row of another owner.
+-- Over any tables, a signing makes no missing parent of a row, and replaces no row of another owner.
 use Rattle.std.specs.Prelude.{max, ℕ, false, ◌||◌, ◌≡◌, Option, Some, None, is_some}
 use Rattle.std.proofs.Common.{refl, ◌∙◌, ap}
 use Rattle.office_commands.specs.declared.tender.NamedSecurity.{NamedSecurity}
