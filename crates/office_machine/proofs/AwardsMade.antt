@@ -1,38 +1,7 @@
 -- Each award of a reached office was made by one of its commands, for the tender that was shown as best.
-use Rattle.std.proofs.Common.{◌≡◌, ℕ, Bool, true, false, List, [], ◌∷◌, map, filter, Option, Some, None, inl, inr, ◌⊎◌, refl, sym, ap, subst}
-use Rattle.std.specs.List.{AllByRecursion}
-use Rattle.office_values.specs.declared.refusal.Refusal.{Refusal}
-use Rattle.office_commands.specs.declared.command.Caller.{Caller}
-use Rattle.office_commands.specs.declared.command.Caller.TheVariants.{Clerk}
-use Rattle.office_commands.specs.declared.commands.Command.{Command}
-use Rattle.office_commands.specs.declared.commands.Command.TheVariants.{Award, Cancel, Fail, Sign}
-use Rattle.office_commands.specs.declared.tender.NamedSecurity.{NamedSecurity}
-use Rattle.office_base.specs.Parents.{envelope_of_award, line_of_lot, lot_of_award, notice_of_award, securities_of_award, security_of_envelope}
-use Rattle.office_base.specs.Rows.{row_at}
-use Rattle.office_base.specs.Rules.{first_of}
-use Rattle.office_base.specs.Tables.{Tables, IsSorted, no_tables, notice_at, lot_at, lot_key, award_at, lots_of_notice, envelopes_of_notice, securities_of_notice, awards_of_notice, envelopes_of_lot, securities_of_lot, after_put, after_puts}
-use Rattle.office_base.specs.Transitions.{is_held_security, passed_over, put_if, securities_returned, security_returned, security_settled}
-use Rattle.office_base.specs.declared.puts.Put.{Put}
+use Rattle.office_machine.proofs.Names.{◌≡◌, ℕ, Bool, true, false, List, [], ◌∷◌, map, filter, Option, Some, None, inl, inr, ◌⊎◌, refl, sym, ap, subst, AllByRecursion, Refusal, Caller, Clerk, Command, Award, Cancel, Fail, Sign, NamedSecurity, envelope_of_award, line_of_lot, lot_of_award, notice_of_award, securities_of_award, security_of_envelope, row_at, first_of, Tables, IsSorted, no_tables, notice_at, lot_at, lot_key, award_at, lots_of_notice, envelopes_of_notice, securities_of_notice, awards_of_notice, envelopes_of_lot, securities_of_lot, after_put, after_puts, is_held_security, passed_over, put_if, securities_returned, security_returned, security_settled, Put, AwardRow, AwardState, EnvelopeRow, LineRow, LotRow, NoticeRow, ReleaseRow, SecurityRow, Forfeited, found_key, award_put, cancel_puts, cancelled_award, cancelled_lot_put, drop_put, envelope_put, freed_line_put, is_ended_award, is_ended_envelope, is_ended_security, is_open_lot, IsAnswer, IsBest, award_puts, award_row, award_rows, award_tests, decision_puts, price_of, winner, fail_puts, performance_put, sign_puts, best_is_found, IsShownBest, AwardsWereShown, MakesAward, WasMade, Means, Given, Reaches, command_tests, effect, publication, publication_puts, time_of}
 use Rattle.office_base.specs.declared.puts.Put.TheVariants as puts
-use Rattle.office_base.specs.declared.records.AwardRow.{AwardRow}
-use Rattle.office_base.specs.declared.records.AwardState.{AwardState}
 use Rattle.office_base.specs.declared.records.AwardState.TheVariants as award_states
-use Rattle.office_base.specs.declared.records.EnvelopeRow.{EnvelopeRow}
-use Rattle.office_base.specs.declared.records.LineRow.{LineRow}
-use Rattle.office_base.specs.declared.records.LotRow.{LotRow}
-use Rattle.office_base.specs.declared.records.NoticeRow.{NoticeRow}
-use Rattle.office_base.specs.declared.records.ReleaseRow.{ReleaseRow}
-use Rattle.office_base.specs.declared.records.SecurityRow.{SecurityRow}
-use Rattle.office_base.specs.declared.records.SecurityState.TheVariants.{Forfeited}
-use Rattle.office_base.proofs.RowLaws.Keyed.{found_key}
-use Rattle.tender_core.specs.Rules.Cancel.{award_put, cancel_puts, cancelled_award, cancelled_lot_put, drop_put, envelope_put, freed_line_put, is_ended_award, is_ended_envelope, is_ended_security, is_open_lot}
-use Rattle.award_core.specs.Best.{IsAnswer, IsBest}
-use Rattle.award_core.specs.Rules.Award.{award_puts, award_row, award_rows, award_tests, decision_puts, price_of, winner}
-use Rattle.award_core.specs.Rules.Fail.{fail_puts}
-use Rattle.award_core.specs.Rules.Sign.{performance_put, sign_puts}
-use Rattle.award_core.proofs.BestFound.{best_is_found}
-use Rattle.office_machine.specs.AwardsShown.{IsShownBest, AwardsWereShown, MakesAward, WasMade}
-use Rattle.office_machine.specs.Machine.{Means, Given, Reaches, command_tests, effect, publication, publication_puts, time_of}
 use Rattle.office_machine.proofs.Accounts.Aside.{after-append}
 use Rattle.office_machine.proofs.AwardsShown.{best_shown, lot_shown, open_notice}
 use Rattle.office_machine.proofs.Commands.Footprint.{Awards, Reads}

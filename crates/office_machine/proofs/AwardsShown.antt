@@ -1,47 +1,12 @@
 -- The winner is shown as the best tender just before an award and just after it.
-use Rattle.std.proofs.Common.{◌≡◌, ℕ, zero, suc, ◌+◌, ◌<◌, Bool, true, false, cond, not, ◌&&◌, ◌||◌, List, [], ◌∷◌, length, slice_index_or, map, filter, Option, Some, None, option_map, unwrap_or, nat_lt, nat_eq, refl, sym, ◌∙◌, ap, subst, arith}
-use Rattle.std.specs.List.{AllByRecursion, Contains, list_any}
-use Rattle.std.specs.declared.cmp.Ordering.{Ordering}
-use Rattle.std.specs.declared.cmp.Ordering.TheVariants.{Less, Equal, Greater}
-use Rattle.office_values.specs.Ids.{same_id}
-use Rattle.office_values.specs.declared.refusal.Refusal.{Refusal}
-use Rattle.office_values.specs.declared.refusal.Refusal.TheVariants.{NotOpened}
-use Rattle.office_commands.specs.Rights.{is_clerk}
-use Rattle.office_commands.specs.declared.command.Caller.{Caller}
-use Rattle.office_commands.specs.declared.command.Caller.TheVariants.{Clerk}
-use Rattle.office_commands.specs.declared.commands.Command.{Command}
-use Rattle.office_commands.specs.declared.commands.Command.TheVariants.{Award}
-use Rattle.office_base.specs.Parents.{line_of_lot}
-use Rattle.office_base.specs.Readings.{is_priced}
-use Rattle.office_base.specs.Rows.{by_order, row_at, row_put}
-use Rattle.office_base.specs.Rules.{first_of}
-use Rattle.office_base.specs.States.{is_read, is_opened, is_undecided}
-use Rattle.office_base.specs.Tables.{Tables, of_notice, lot_cmp, lot_key, notice_at, lot_at, line_at, find_notice, find_lot, put_notice, put_lot, lots_of_notice, awards_of_notice, envelopes_of_lot, securities_of_lot, after_put, after_puts}
-use Rattle.office_base.specs.Transitions.{clock_put, is_held_security, security_returned, with_next_release}
-use Rattle.office_base.specs.declared.puts.Put.{Put}
+use Rattle.office_machine.proofs.Names.{◌≡◌, ℕ, zero, suc, ◌+◌, ◌<◌, Bool, true, false, cond, not, ◌&&◌, ◌||◌, List, [], ◌∷◌, length, slice_index_or, map, filter, Option, Some, None, option_map, unwrap_or, nat_lt, nat_eq, refl, sym, ◌∙◌, ap, subst, arith, AllByRecursion, Contains, list_any, Ordering, Less, Equal, Greater, same_id, Refusal, NotOpened, is_clerk, Caller, Clerk, Command, Award, line_of_lot, is_priced, by_order, row_at, row_put, first_of, is_read, is_opened, is_undecided, Tables, of_notice, lot_cmp, lot_key, notice_at, lot_at, line_at, find_notice, find_lot, put_notice, put_lot, lots_of_notice, awards_of_notice, envelopes_of_lot, securities_of_lot, after_put, after_puts, clock_put, is_held_security, security_returned, with_next_release, Put, ClockRow, EnvelopeRow, LineRow, LotRow, NoticeRow, ReleaseRow, SecurityRow, lowest_in, IsBest, IsAnswer, is_admissible, is_better, is_cheaper, is_responsive, points, price_of, weight_in, winner, award_puts, award_rows, award_tests, awarded, unsuccessful, decision_puts, best_is_found, is_shown_better, IsShownBest, IsShownWinner, LotIsShown, ShowsLot, evaluation_shown, WinnerIsShown, ReplyIsShown, WinnersAreShown, awards_of_lot, evaluated_tender, evaluated_tenders, evaluated_lot, evaluation_told, has_outcome, is_award_of, lot_told, Means, Given, Reaches, command_tests, effect, publication, publication_puts, time_of, EvaluatedLot, EvaluatedTender, EvaluationSeen, winning, reply_by, same_itself, IsKeyed, found_key}
 use Rattle.office_base.specs.declared.puts.Put.TheVariants as puts
-use Rattle.office_base.specs.declared.records.ClockRow.{ClockRow}
-use Rattle.office_base.specs.declared.records.EnvelopeRow.{EnvelopeRow}
-use Rattle.office_base.specs.declared.records.LineRow.{LineRow}
-use Rattle.office_base.specs.declared.records.LotRow.{LotRow}
-use Rattle.office_base.specs.declared.records.NoticeRow.{NoticeRow}
-use Rattle.office_base.specs.declared.records.ReleaseRow.{ReleaseRow}
-use Rattle.office_base.specs.declared.records.SecurityRow.{SecurityRow}
-use Rattle.award_core.specs.Best.{lowest_in, IsBest, IsAnswer}
-use Rattle.award_core.specs.Rules.Award.{is_admissible, is_better, is_cheaper, is_responsive, points, price_of, weight_in, winner, award_puts, award_rows, award_tests, awarded, unsuccessful, decision_puts}
-use Rattle.award_core.proofs.BestFound.{best_is_found}
-use Rattle.office_machine.specs.AwardsShown.{is_shown_better, IsShownBest, IsShownWinner, LotIsShown, ShowsLot, evaluation_shown, WinnerIsShown, ReplyIsShown, WinnersAreShown}
-use Rattle.office_machine.specs.Evaluation.{awards_of_lot, evaluated_tender, evaluated_tenders, evaluated_lot, evaluation_told, has_outcome, is_award_of, lot_told}
-use Rattle.office_machine.specs.Machine.{Means, Given, Reaches, command_tests, effect, publication, publication_puts, time_of}
-use Rattle.office_machine.specs.Replies.{EvaluatedLot, EvaluatedTender, EvaluationSeen, Refused, winning}
-use Rattle.office_machine.specs.Requests.{reply_by}
+use Rattle.office_machine.specs.Replies.{Refused}
 use Rattle.office_machine.proofs.Accounts.Aside.{after-append}
 use Rattle.office_machine.proofs.Parents.ParentsThere.{parents_there}
 use Rattle.office_machine.proofs.Passed.{none_holds, allowed_by, not_false, test_of, witness}
 use Rattle.office_machine.proofs.Rows.Keyed.{found_put}
 use Rattle.office_machine.proofs.Rows.Keyed as keyed
-use Rattle.office_base.proofs.ExactKeys.{same_itself}
-use Rattle.office_base.proofs.RowLaws.Keyed.{IsKeyed, found_key}
 
 -- Lists.
 

@@ -19,7 +19,7 @@ pub mod Register
 pub mod Sign
 pub mod Tail
 pub mod Withdraw
-use Rattle.office_commands.specs.declared.commands.Command.{Command}
+use Rattle.office_machine.proofs.Names.{Command}
 use Rattle.office_commands.specs.declared.commands.Command.TheVariants as commands
 use Rattle.office_machine.proofs.Commands.Lawful.{Lawful as KeepsLaws}
 use Rattle.office_machine.proofs.Commands.Import.{import_budget}

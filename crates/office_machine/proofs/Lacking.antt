@@ -1,13 +1,5 @@
 -- In a reached office, no row is missing that an accepted command needs.
-use Rattle.std.specs.Prelude.{◌≡◌, ℕ, true, cond, List, Option, Some, None, IsSome, is_some}
-use Rattle.std.proofs.Common.{◌∙◌, ap}
-use Rattle.office_base.specs.Tables.{Tables, envelope_at, seal_at}
-use Rattle.office_base.specs.declared.records.EnvelopeRow.{EnvelopeRow}
-use Rattle.office_base.specs.declared.records.EnvelopeState.{EnvelopeState}
-use Rattle.office_base.specs.declared.records.SealRow.{SealRow}
-use Rattle.office_machine.specs.Fates.{is_kept}
-use Rattle.office_machine.specs.Lacking.{NothingIsLacking}
-use Rattle.office_machine.specs.Machine.{Given, Means, Reaches}
+use Rattle.office_machine.proofs.Names.{◌≡◌, ℕ, true, cond, List, Option, Some, None, IsSome, is_some, ◌∙◌, ap, Tables, envelope_at, seal_at, EnvelopeRow, EnvelopeState, SealRow, is_kept, NothingIsLacking, Given, Means, Reaches}
 use Rattle.office_machine.proofs.Accounts.AccountsKept.{all_kept}
 use Rattle.office_machine.proofs.Commands.{lawful}
 use Rattle.office_machine.proofs.FateLaws.FatesHold.{FatesStand}

@@ -1,3 +1,4 @@
+pub mod Names
 pub mod Passed
 pub mod Reached
 pub mod Runs

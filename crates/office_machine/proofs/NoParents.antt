@@ -3,19 +3,10 @@ pub mod Gentle
 pub mod Kept
 pub mod Named
 pub mod New
-use Rattle.std.specs.Prelude.{◌≡◌, ℕ, List, Option, Some, None, option_and_then, option_map}
-use Rattle.std.proofs.Common.{refl}
-use Rattle.office_base.specs.declared.records.ReleaseRow.{ReleaseRow}
-use Rattle.office_base.specs.Tables.{Tables}
-use Rattle.office_machine.specs.Machine.{Given, Means, effect, publication, publication_puts, puts_of}
-use Rattle.office_machine.specs.NoParents.{NoOwnerIsReplaced, NoParentIsMade}
+use Rattle.office_machine.proofs.Names.{◌≡◌, ℕ, List, Option, Some, None, option_and_then, option_map, refl, ReleaseRow, Tables, Given, Means, effect, publication, publication_puts, puts_of, NoOwnerIsReplaced, NoParentIsMade, is_lacking, refusal_of, IsSorted, false}
 use Rattle.office_machine.proofs.Commands.{lawful}
 use Rattle.office_machine.proofs.NoParents.Gentle.{AreGentle, gentle-append, orphans_stay, owners_stay, owners_there}
 use Rattle.office_machine.proofs.Passed.{allowed_by}
-use Rattle.office_machine.specs.Lacking.{is_lacking}
-use Rattle.office_machine.specs.Machine.{refusal_of}
-use Rattle.office_base.specs.Tables.{IsSorted}
-use Rattle.std.specs.Prelude.{false}
 
 -- A release is no parent, and replaces no row of another owner.
 released_gently : (t : Tables) (o : Option ReleaseRow) → AreGentle t (publication_puts o)

@@ -1,13 +1,5 @@
 -- Facts about a command that isn't refused.
-use Rattle.std.specs.Prelude.{◌≡◌, ℕ, ◌+◌, ◌≤◌, Bool, true, false, cond, not, ◌||◌, ◌&&◌, List, [], ◌∷◌, Option, Some, None, is_some, nat_lt}
-use Rattle.std.proofs.Common.{refl, sym, ap, ◌∙◌, arith}
-use Rattle.std.proofs.lemmas.Bool.Decides.{nat_tests}
-use Rattle.std.specs.List.{AllByRecursion}
-use Rattle.office_values.specs.declared.refusal.Refusal.{Refusal}
-use Rattle.office_values.specs.declared.refusal.Refusal.TheVariants.{Forbidden}
-use Rattle.office_machine.specs.Machine.{may_give, Given, command_tests, refusal_of}
-use Rattle.office_base.specs.Rows.{holds_of}
-use Rattle.office_base.specs.Rules.{first_of}
+use Rattle.office_machine.proofs.Names.{◌≡◌, ℕ, ◌+◌, ◌≤◌, Bool, true, false, cond, not, ◌||◌, ◌&&◌, List, [], ◌∷◌, Option, Some, None, is_some, nat_lt, refl, sym, ap, ◌∙◌, arith, nat_tests, AllByRecursion, Refusal, Forbidden, may_give, Given, command_tests, refusal_of, holds_of, first_of}
 
 pub passed : (b : Bool) (why : Refusal) (rest : Option Refusal) → cond b (Some why) rest ≡ None → (b ≡ false) × (rest ≡ None)
 passed true why rest e = cc

@@ -1,34 +1,8 @@
 -- The refusals of queries are tested in the order of their numbers.
-use Rattle.std.specs.Prelude.{◌≡◌, ℕ, Bool, true, false, not, cond, ◌||◌, List, [], ◌∷◌, Option, Some, None}
-use Rattle.std.proofs.Common.{refl, sym, ◌∙◌}
-use Rattle.office_commands.specs.Callers.{is_by}
-use Rattle.office_commands.specs.Queries.{query_kind_of}
-use Rattle.office_commands.specs.Rights.{is_clerk, may_look}
-use Rattle.office_commands.specs.declared.command.Caller.{Caller}
-use Rattle.office_commands.specs.declared.queries.Query.{Query}
+use Rattle.office_machine.proofs.Names.{◌≡◌, ℕ, Bool, true, false, not, cond, ◌||◌, List, [], ◌∷◌, Option, Some, None, refl, sym, ◌∙◌, is_by, query_kind_of, is_clerk, may_look, Caller, Query, Refusal, Forbidden, NotOpened, NotYourTender, first_of, is_opened, Tables, contract_at, envelope_at, entries_of_contract, envelopes_of_notice, late_at, line_at, lots_of_notice, notice_at, performance_at, securities_of_notice, security_at, awards_of_notice, AwardRow, ContractRow, EntryRow, EnvelopeRow, LateRow, LineRow, LotRow, NoticeRow, PerformanceRow, SecurityRow, TendererRow, holds_of, evaluation_told, FirstAnswersQuery, LeastAnswersQuery, asking_tests, is_neither, isnt_opened_yet, named_test, query_tests, refusal_in, Reply, Packages, contract_told, line_told, minutes_told, own_tenders_told, package_told, performance_told, register_told, securities_told, security_told, shown, tender_told, terms_told}
 use Rattle.office_commands.specs.declared.queries.Query.TheVariants as queries
-use Rattle.office_values.specs.declared.refusal.Refusal.{Refusal}
-use Rattle.office_values.specs.declared.refusal.Refusal.TheVariants.{Forbidden, NotOpened, NotYourTender}
-use Rattle.office_base.specs.Rules.{first_of}
-use Rattle.office_base.specs.States.{is_opened}
-use Rattle.office_base.specs.Tables.{Tables, contract_at, envelope_at, entries_of_contract, envelopes_of_notice, late_at, line_at, lots_of_notice, notice_at, performance_at, securities_of_notice, security_at, awards_of_notice}
-use Rattle.office_base.specs.declared.records.AwardRow.{AwardRow}
-use Rattle.office_base.specs.declared.records.ContractRow.{ContractRow}
-use Rattle.office_base.specs.declared.records.EntryRow.{EntryRow}
-use Rattle.office_base.specs.declared.records.EnvelopeRow.{EnvelopeRow}
-use Rattle.office_base.specs.declared.records.LateRow.{LateRow}
-use Rattle.office_base.specs.declared.records.LineRow.{LineRow}
-use Rattle.office_base.specs.declared.records.LotRow.{LotRow}
-use Rattle.office_base.specs.declared.records.NoticeRow.{NoticeRow}
-use Rattle.office_base.specs.declared.records.PerformanceRow.{PerformanceRow}
-use Rattle.office_base.specs.declared.records.SecurityRow.{SecurityRow}
-use Rattle.office_base.specs.declared.records.TendererRow.{TendererRow}
-use Rattle.office_base.specs.Rows.{holds_of}
 use Rattle.office_values.specs.declared.refusal.Thing.TheVariants as things
-use Rattle.office_machine.specs.Evaluation.{evaluation_told}
-use Rattle.office_machine.specs.QueryOrder.{FirstAnswersQuery, LeastAnswersQuery, asking_tests, is_neither, isnt_opened_yet, named_test, query_tests, refusal_in}
-use Rattle.office_machine.specs.Replies.{Reply, Refused}
-use Rattle.office_machine.specs.Sights.{Packages, contract_told, line_told, minutes_told, own_tenders_told, package_told, performance_told, register_told, securities_told, security_told, shown, tender_told, terms_told}
+use Rattle.office_machine.specs.Replies.{Refused}
 use Rattle.office_machine.proofs.Commands.Ordered.{least, rises, risen}
 
 -- a reply that is shown under a condition, and else refused

@@ -1,14 +1,8 @@
 -- The commands that a run accepts lead to its last office.
-use Rattle.std.proofs.Common.{◌≡◌, Bool, true, false, List, [], ◌∷◌, Option, Some, None, refl}
-use Rattle.office_base.specs.Tables.{Tables}
-use Rattle.office_values.specs.declared.refusal.Refusal.{Refusal}
-use Rattle.office_machine.specs.Machine.{Means, Given, CanBeGiven, Reaches, refusal_of, puts_of, next}
-use Rattle.office_machine.specs.Requests.{Demand, Asks, Looks, Request, given_by_request, office_by, accepted_by, demand_office, demand_accepted, office_after, accepted_with, IsDemand, RunsReach, StepsReach}
+use Rattle.office_machine.proofs.Names.{◌≡◌, Bool, true, false, List, [], ◌∷◌, Option, Some, None, refl, Tables, Refusal, Means, Given, CanBeGiven, Reaches, refusal_of, puts_of, next, Demand, Asks, Looks, Request, given_by_request, office_by, accepted_by, demand_office, demand_accepted, office_after, accepted_with, IsDemand, RunsReach, StepsReach, sorted-puts, cond}
 use Rattle.office_machine.proofs.Parents.ParentsThere.{parents_kept, parents_there}
 use Rattle.office_machine.proofs.Passed.{allowed_by, may_by}
 use Rattle.office_machine.proofs.Rows.SortedTables.{sorted}
-use Rattle.office_base.proofs.SortedTables.{sorted-puts}
-use Rattle.std.specs.Prelude.{cond}
 
 -- an accepted command leads to the office after it
 pub steps_reach : StepsReach

@@ -1,10 +1,5 @@
 -- A fact about the empty office that each accepted command keeps is true of every reached office.
-use Rattle.std.proofs.Common.{◌≡◌, List, [], ◌∷◌, None, sym, subst}
-use Rattle.office_values.specs.Ids.{id_cmp}
-use Rattle.office_base.specs.Rows.{IsInOrder}
-use Rattle.office_base.specs.Tables.{Tables, no_tables, compiled_key}
-use Rattle.office_base.specs.declared.records.CompiledRow.{CompiledRow}
-use Rattle.office_machine.specs.Machine.{AreOfNotices, Means, Given, CanBeGiven, Reaches, refusal_of, next, with_merges}
+use Rattle.office_machine.proofs.Names.{◌≡◌, List, [], ◌∷◌, None, sym, subst, id_cmp, IsInOrder, Tables, no_tables, compiled_key, CompiledRow, AreOfNotices, Means, Given, CanBeGiven, Reaches, refusal_of, next, with_merges}
 
 -- the command is accepted in an office to which these commands lead
 pub record IsAccepted (means : Means) (xs : List Given) (x : Given) : Type 0 where

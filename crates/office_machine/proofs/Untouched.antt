@@ -1,13 +1,5 @@
 -- A law that reads only some tables is kept by each command that touches none of them.
-use Rattle.std.specs.Prelude.{◌≡◌, ℕ, false, max, List, None}
-use Rattle.std.specs.List.{list_any, AllByRecursion}
-use Rattle.office_commands.specs.declared.command.Caller.{Caller}
-use Rattle.office_commands.specs.declared.commands.Command.{Command}
-use Rattle.office_base.specs.Rules.{first_of}
-use Rattle.office_base.specs.Tables.{Tables}
-use Rattle.office_base.specs.declared.puts.Put.{Put}
-use Rattle.office_machine.specs.Machine.{Given, Means, Reaches, command_tests, effect}
-use Rattle.office_machine.specs.Publications.{published_for}
+use Rattle.office_machine.proofs.Names.{◌≡◌, ℕ, false, max, List, None, list_any, AllByRecursion, Caller, Command, first_of, Tables, Put, Given, Means, Reaches, command_tests, effect, published_for}
 use Rattle.office_machine.proofs.Commands.{lawful}
 use Rattle.office_machine.proofs.Commands.Footprint.{TableName, Reads, on-others, touches}
 use Rattle.office_machine.proofs.Commands.Lawful.{given}

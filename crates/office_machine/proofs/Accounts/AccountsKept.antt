@@ -1,17 +1,5 @@
 -- Every accepted command keeps the accounts, so they are right in every reached office.
-use Rattle.std.proofs.Common.{◌≡◌, ℕ, List, [], ◌∷◌, Some, None, refl}
-use Rattle.std.specs.Prelude.{max}
-use Rattle.office_commands.specs.declared.command.Caller.{Caller}
-use Rattle.office_commands.specs.declared.commands.Command.{Command}
-use Rattle.office_base.specs.Rows.{row_at}
-use Rattle.office_base.specs.Rules.{first_of}
-use Rattle.office_base.specs.Tables.{Tables, IsSorted, no_tables, after_puts}
-use Rattle.office_commands.specs.Commands.{IsCommand}
-use Rattle.office_machine.specs.Machine.{Means, Given, Reaches, tests_for, puts_for, with_merges}
-use Rattle.office_machine.specs.Parents.{HaveParents}
-use Rattle.office_machine.specs.Readings.{Readings}
-use Rattle.office_base.specs.declared.records.CompiledRow.{CompiledRow}
-use Rattle.office_machine.specs.Accounts.{AreBalanced}
+use Rattle.office_machine.proofs.Names.{◌≡◌, ℕ, List, [], ◌∷◌, Some, None, refl, max, Caller, Command, row_at, first_of, Tables, IsSorted, no_tables, after_puts, IsCommand, Means, Given, Reaches, tests_for, puts_for, with_merges, HaveParents, Readings, CompiledRow, AreBalanced}
 use Rattle.office_machine.proofs.Accounts.Aside.{kept_published}
 use Rattle.office_machine.proofs.Accounts.Balance.{balanced}
 use Rattle.office_machine.proofs.Accounts.Kept.{AccountsStand}

@@ -1,36 +1,15 @@
 -- No sum exceeds its range.
-use Rattle.std.proofs.Common.{◌≡◌, ℕ, ◌+◌, ◌-◌, ◌≤◌, Bool, true, false, cond, ◌&&◌, List, [], ◌∷◌, ◌++◌, Option, Some, None, nat_le, refl, sym, ◌∙◌, ap, subst, arith}
-use Rattle.std.specs.Ordering.{nat_cmp}
-use Rattle.office_base.specs.Rows.{row_at}
-use Rattle.office_values.specs.Ids.{same_id}
-use Rattle.office_values.specs.Money.{total_limit}
-use Rattle.office_base.specs.Rules.{first_of}
-use Rattle.office_base.specs.declared.records.LotRow.{LotRow}
-use Rattle.office_base.specs.declared.records.ContractRow.{ContractRow}
-use Rattle.office_base.specs.declared.records.EnvelopeRow.{EnvelopeRow}
-use Rattle.office_commands.specs.declared.contract.ChangeKind.{ChangeKind}
+use Rattle.office_machine.proofs.Names.{◌≡◌, ℕ, ◌+◌, ◌-◌, ◌≤◌, Bool, true, false, cond, ◌&&◌, List, [], ◌∷◌, ◌++◌, Option, Some, None, nat_le, refl, sym, ◌∙◌, ap, subst, arith, nat_cmp, row_at, same_id, total_limit, first_of, LotRow, ContractRow, EnvelopeRow, ChangeKind, Command, Import, Publish, Cancel, Award, Sign, AmendContract, Pay, End, Tables, IsSorted, lot_cmp, lot_key, contract_key, find_lot, notice_at, lot_at, contract_at, envelopes_of_lot, after_puts, price_of, winner, outstanding, paid_under, is_on_line, lot_of_contract, Means, Given, Reaches, command_tests, effect, publication_puts, next, publication, Move, Outside, inflow, outflow, moves, moves_by, move_of_lot, move_back, move_of_award, move_of_change, reserved_for, line_in, Free, Reserved, appropriation, SumsInRange, same_itself, sum_over-append_map, sum_over-zero}
 use Rattle.office_commands.specs.declared.contract.ChangeKind.TheVariants as change_kinds
-use Rattle.office_commands.specs.declared.commands.Command.{Command}
-use Rattle.office_commands.specs.declared.commands.Command.TheVariants.{Import, Publish, Cancel, Award, Sign, AmendContract, Pay, End}
-use Rattle.office_base.specs.Tables.{Tables, IsSorted, lot_cmp, lot_key, contract_key, find_lot, notice_at, lot_at, contract_at, envelopes_of_lot, after_puts}
-use Rattle.award_core.specs.Rules.Award.{price_of, winner}
-use Rattle.office_base.specs.Joined.{outstanding, paid_under, is_on_line}
-use Rattle.office_base.specs.Parents.{lot_of_contract}
-use Rattle.office_machine.specs.Machine.{Means, Given, Reaches, command_tests, effect, publication_puts, next, publication}
-use Rattle.office_machine.specs.Moves.{Move, Outside, inflow, outflow, moves, moves_by, move_of_lot, move_back, move_of_award, move_of_change, reserved_for, line_in, Free, Reserved}
-use Rattle.office_machine.specs.Accounts.{appropriation}
-use Rattle.office_machine.specs.Fits.{SumsInRange}
 use Rattle.office_machine.proofs.Accounts.AccountsKept.{all_kept}
 use Rattle.office_machine.proofs.Accounts.Aside.{all_aside, published_aside, after-append}
 use Rattle.office_machine.proofs.Accounts.Balance.{add_up, balanced}
-use Rattle.office_base.proofs.ExactKeys.{same_itself}
 use Rattle.office_machine.proofs.Commands.Import.Accounts.{import_fits}
 use Rattle.office_machine.proofs.Accounts.Joins.{is_of}
 use Rattle.office_machine.proofs.Accounts.Kept.{AccountsStand, reserved_by, over_contracts}
 use Rattle.office_machine.proofs.Rows.Keyed.{weight_le}
 use Rattle.office_machine.proofs.Passed.{witness, allowed_by}
 use Rattle.office_machine.proofs.Rows.SortedTables.{sorted}
-use Rattle.office_base.proofs.SumsOver.{sum_over-append_map, sum_over-zero}
 
 -- these further moves move nothing from outside to the line or back
 record IsInside (ms : List Move) (more : List Move) (q : List ℕ) : Type 0 where

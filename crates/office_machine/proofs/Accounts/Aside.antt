@@ -1,15 +1,6 @@
 -- Commands that move nothing, and puts that touch none of the books: lines, lots, awards, contracts and entries.
-use Rattle.std.proofs.Common.{◌≡◌, ℕ, ◌-◌, ◌≤◌, List, [], ◌∷◌, ◌++◌, map, filter, Option, Some, None, refl, sym, ◌∙◌, ap, subst, arith}
-use Rattle.std.specs.Prelude.{IsSome}
-use Rattle.std.specs.List.{AllByRecursion}
-use Rattle.office_base.specs.declared.records.SecurityRow.{SecurityRow}
-use Rattle.office_base.specs.Tables.{Tables, find_notice, after_put, after_puts}
-use Rattle.office_base.specs.declared.puts.Put.{Put}
+use Rattle.office_machine.proofs.Names.{◌≡◌, ℕ, ◌-◌, ◌≤◌, List, [], ◌∷◌, ◌++◌, map, filter, Option, Some, None, refl, sym, ◌∙◌, ap, subst, arith, IsSome, AllByRecursion, SecurityRow, Tables, find_notice, after_put, after_puts, Put, security_returned, is_held_security, securities_returned, put_if, ReleaseRow, Given, Means, publication_puts, effect, next, publication, moves, moves_by, reserved_for, brought, brought_by, taken, taken_by}
 use Rattle.office_base.specs.declared.puts.Put.TheVariants as puts
-use Rattle.office_base.specs.Transitions.{security_returned, is_held_security, securities_returned, put_if}
-use Rattle.office_base.specs.declared.records.ReleaseRow.{ReleaseRow}
-use Rattle.office_machine.specs.Machine.{Given, Means, publication_puts, effect, next, publication}
-use Rattle.office_machine.specs.Moves.{moves, moves_by, reserved_for, brought, brought_by, taken, taken_by}
 use Rattle.office_machine.proofs.Accounts.Kept.{AccountsStand, PotsAre}
 use Rattle.office_machine.proofs.Rows.Keyed as keyed
 use Rattle.office_machine.proofs.Rows.Keyed.{still_there}

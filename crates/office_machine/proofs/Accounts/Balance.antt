@@ -1,13 +1,5 @@
 -- No money is lost between the balances of a line.
-use Rattle.std.proofs.Common.{◌≡◌, ℕ, ◌+◌, ◌-◌, ◌≤◌, Bool, true, false, cond, ◌&&◌, List, [], ◌∷◌, refl, arith}
-use Rattle.office_values.specs.Ids.{same_id}
-use Rattle.office_base.specs.Sums.{sum_over}
-use Rattle.office_base.specs.declared.records.ContractRow.{ContractRow}
-use Rattle.office_base.specs.Tables.{Tables, IsSorted}
-use Rattle.office_base.specs.Joined.{plus, minus, outstanding, paid_under, is_on_line}
-use Rattle.office_machine.specs.Machine.{Given}
-use Rattle.office_machine.specs.Moves.{Move, Pot, Outside, Free, Reserved, Contracted, Paid, inflow, outflow, same_pot, moves}
-use Rattle.office_machine.specs.Accounts.{appropriation, free, IsBalanced}
+use Rattle.office_machine.proofs.Names.{◌≡◌, ℕ, ◌+◌, ◌-◌, ◌≤◌, Bool, true, false, cond, ◌&&◌, List, [], ◌∷◌, refl, arith, same_id, sum_over, ContractRow, Tables, IsSorted, plus, minus, outstanding, paid_under, is_on_line, Given, Move, Pot, Outside, Free, Reserved, Contracted, Paid, inflow, outflow, same_pot, moves, appropriation, free, IsBalanced}
 use Rattle.office_machine.proofs.Accounts.Kept.{AccountsStand, reserved_over, over_contracts}
 use Rattle.office_machine.proofs.Accounts.Joins.{reserved_is_over, contracted_is_over, paid_is_over}
 use Rattle.office_machine.proofs.Rows.Keyed.{sum-found_le, sum-found_agree}

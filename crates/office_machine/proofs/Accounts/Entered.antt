@@ -1,24 +1,7 @@
 -- A contract gets an entry.
-use Rattle.std.proofs.Common.{◌≡◌, ◌||◌, ℕ, ◌+◌, ◌-◌, ◌≤◌, Bool, true, false, cond, ◌&&◌, List, [], ◌∷◌, filter, Some, None, refl, sym, ◌∙◌, ap, subst, arith}
-use Rattle.std.specs.FinMap.{nat_cmp-IsAntisymmetric}
-use Rattle.std.specs.Cmp.{nat_cmp_total}
-use Rattle.std.specs.List.{list_any}
-use Rattle.std.specs.declared.cmp.Ordering.TheVariants.{Less, Equal, Greater}
-use Rattle.office_values.specs.Ids.{same_id}
-use Rattle.office_base.specs.Tables.{same_number, Tables, IsSorted, entry_cmp, find_lot, find_contract, find_entry, put_entry}
-use Rattle.office_base.specs.Rows.{by_order, row_at}
-use Rattle.office_base.specs.EntryKinds.{is_raise, is_less, is_payment}
-use Rattle.office_base.specs.declared.records.LotRow.{LotRow}
-use Rattle.office_base.specs.declared.records.ContractRow.{ContractRow}
-use Rattle.office_base.specs.declared.records.EntryRow.{EntryRow}
-use Rattle.office_base.specs.Joined.{entry_sum, plus, minus, paid_under}
-use Rattle.award_core.specs.Rules.AmendContract.{is_taken}
-use Rattle.office_machine.specs.Machine.{Given}
-use Rattle.office_machine.specs.Moves.{reserved_for, brought, brought_by, taken, taken_by}
-use Rattle.office_base.proofs.ExactKeys.{equal_keys, same_itself}
+use Rattle.office_machine.proofs.Names.{◌≡◌, ◌||◌, ℕ, ◌+◌, ◌-◌, ◌≤◌, Bool, true, false, cond, ◌&&◌, List, [], ◌∷◌, filter, Some, None, refl, sym, ◌∙◌, ap, subst, arith, nat_cmp-IsAntisymmetric, nat_cmp_total, list_any, Less, Equal, Greater, same_id, same_number, Tables, IsSorted, entry_cmp, find_lot, find_contract, find_entry, put_entry, by_order, row_at, is_raise, is_less, is_payment, LotRow, ContractRow, EntryRow, entry_sum, plus, minus, paid_under, is_taken, Given, reserved_for, brought, brought_by, taken, taken_by, equal_keys, same_itself, found_key, own_key}
 use Rattle.office_machine.proofs.Accounts.Kept.{AccountsStand, ContractIs, NoContractIs, over_contracts}
 use Rattle.office_machine.proofs.Accounts.Joins.{entry_sum-new, over_contracts-gains}
-use Rattle.office_base.proofs.RowLaws.Keyed.{found_key, own_key}
 use Rattle.office_machine.proofs.Rows.Keyed as keyed
 use Rattle.office_machine.proofs.Passed.{neither, both}
 

@@ -1,10 +1,5 @@
 -- Commands that move nothing and touch no book keep the accounts.
-use Rattle.std.proofs.Common.{◌≡◌, ℕ, ◌≤◌, Bool, false, ◌||◌, List, ◌∷◌, Option, sym, subst}
-use Rattle.office_base.specs.declared.records.ClockRow.{ClockRow}
-use Rattle.office_base.specs.declared.records.PerformanceRow.{PerformanceRow}
-use Rattle.office_base.specs.declared.puts.Put.{Put}
-use Rattle.office_base.specs.Tables.{after_puts}
-use Rattle.office_machine.specs.Machine.{Given}
+use Rattle.office_machine.proofs.Names.{◌≡◌, ℕ, ◌≤◌, Bool, false, ◌||◌, List, ◌∷◌, Option, sym, subst, ClockRow, PerformanceRow, Put, after_puts, Given}
 use Rattle.office_machine.proofs.Accounts.Aside.{IsIdle, SameBooks, kept_alike, kept_idle}
 use Rattle.office_machine.proofs.Commands.Footprint.{TableName, Lines, Lots, Awards, Contracts, Entries, is_in, leaves}
 use Rattle.office_machine.proofs.Accounts.Kept.{AccountsStand}

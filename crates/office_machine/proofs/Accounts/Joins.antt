@@ -1,21 +1,7 @@
 -- How the sums over joined rows change with a row.
-use Rattle.std.proofs.Common.{◌≡◌, ℕ, ◌+◌, Bool, true, false, cond, ◌&&◌, List, [], ◌∷◌, filter, Option, Some, None, refl, sym, ◌∙◌, ap, subst, arith}
-use Rattle.std.specs.Ordering.{nat_cmp, eq_by_cmp}
-use Rattle.office_values.specs.Ids.{same_id}
-use Rattle.office_base.specs.Tables.{same_number, Tables, of_line, lot_cmp, entry_cmp, lot_key, contract_key, entry_key, find_line, put_line, find_lot, put_lot, find_contract, put_contract, find_entry, put_entry}
-use Rattle.office_base.specs.Rows.{holds_of, IsInOrder}
-use Rattle.office_base.specs.declared.records.EntryKind.{EntryKind}
-use Rattle.office_base.specs.declared.records.LineRow.{LineRow}
-use Rattle.office_base.specs.declared.records.LotRow.{LotRow}
-use Rattle.office_base.specs.declared.records.ContractRow.{ContractRow}
-use Rattle.office_base.specs.declared.records.EntryRow.{EntryRow}
-use Rattle.office_base.specs.Joined.{appropriation_in, free_in, entry_sum, is_on_line, outstanding, paid_under, reserved, contracted, paid}
+use Rattle.office_machine.proofs.Names.{◌≡◌, ℕ, ◌+◌, Bool, true, false, cond, ◌&&◌, List, [], ◌∷◌, filter, Option, Some, None, refl, sym, ◌∙◌, ap, subst, arith, nat_cmp, eq_by_cmp, same_id, same_number, Tables, of_line, lot_cmp, entry_cmp, lot_key, contract_key, entry_key, find_line, put_line, find_lot, put_lot, find_contract, put_contract, find_entry, put_entry, holds_of, IsInOrder, EntryKind, LineRow, LotRow, ContractRow, EntryRow, appropriation_in, free_in, entry_sum, is_on_line, outstanding, paid_under, reserved, contracted, paid, sum_over-ext, sum_over-filter, same_id_is, equal_ids, equal_keys, lots_exact, row_at-row_put, sum_over-put_new}
 use Rattle.office_machine.proofs.Accounts.Kept.{reserved_by, reserved_over, over_contracts}
-use Rattle.office_base.proofs.SumsOver.{sum_over-ext, sum_over-filter}
-use Rattle.office_base.proofs.ExactKeys.{same_id_is, equal_ids, equal_keys, lots_exact}
-use Rattle.office_base.proofs.RowLaws.{row_at-row_put}
 use Rattle.office_machine.proofs.Rows.Keyed.{sum-replaced, sum-gains, found_put, elsewhere}
-use Rattle.office_base.proofs.SumsOver.{sum_over-put_new}
 use Rattle.office_machine.proofs.Rows.Keyed as by
 
 -- the lot exists and is on the line

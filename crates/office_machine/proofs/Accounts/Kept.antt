@@ -1,19 +1,6 @@
 -- The facts about the accounts that are true of every reached office.
-use Rattle.std.specs.Prelude.{◌≡◌, ℕ, ◌+◌, ◌≤◌, Bool, true, false, cond, List, Some, None, IsSome, is_some}
-use Rattle.office_values.specs.Ids.{same_id}
-use Rattle.office_base.specs.Sums.{sum_over}
-use Rattle.office_base.specs.States.{is_open, is_active}
-use Rattle.office_base.specs.EntryKinds.{is_raise, is_less, is_payment}
-use Rattle.office_base.specs.declared.records.LotRow.{LotRow}
-use Rattle.office_base.specs.declared.records.LotState.{LotState}
+use Rattle.office_machine.proofs.Names.{◌≡◌, ℕ, ◌+◌, ◌≤◌, Bool, true, false, cond, List, Some, None, IsSome, is_some, same_id, sum_over, is_open, is_active, is_raise, is_less, is_payment, LotRow, LotState, AwardRow, ContractRow, Tables, find_line, find_lot, find_notice, find_award, find_contract, entry_sum, plus, minus, paid_under, is_on_line, Given, Move, Outside, Free, Reserved, Contracted, Paid, inflow, outflow, moves, reserved_for, brought, taken, appropriation, free}
 use Rattle.office_base.specs.declared.records.LotState.TheVariants as lot_states
-use Rattle.office_base.specs.declared.records.AwardRow.{AwardRow}
-use Rattle.office_base.specs.declared.records.ContractRow.{ContractRow}
-use Rattle.office_base.specs.Tables.{Tables, find_line, find_lot, find_notice, find_award, find_contract}
-use Rattle.office_base.specs.Joined.{entry_sum, plus, minus, paid_under, is_on_line}
-use Rattle.office_machine.specs.Machine.{Given}
-use Rattle.office_machine.specs.Moves.{Move, Outside, Free, Reserved, Contracted, Paid, inflow, outflow, moves, reserved_for, brought, taken}
-use Rattle.office_machine.specs.Accounts.{appropriation, free}
 
 abbrev pub is_awarded : LotState → Bool
 is_awarded lot_states.Undecided = false

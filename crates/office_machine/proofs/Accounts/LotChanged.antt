@@ -1,25 +1,7 @@
 -- A lot gets another state and another reserved amount.
-use Rattle.std.proofs.Common.{◌≡◌, ℕ, ◌+◌, ◌≤◌, Bool, true, false, cond, List, ◌∷◌, Some, refl, sym, ◌∙◌, ap, subst, ◌⊎◌, inl, inr, arith}
-use Rattle.std.specs.Prelude.{IsSome}
-use Rattle.std.specs.FinMap.{nat_cmp-IsAntisymmetric}
-use Rattle.std.specs.Cmp.{nat_cmp_total}
-use Rattle.std.specs.Ordering.{nat_cmp, eq_by_cmp}
-use Rattle.office_values.specs.Ids.{same_id}
-use Rattle.office_base.specs.Tables.{same_number, Tables, lot_cmp, find_line, put_line, find_notice, find_lot, put_lot, find_award, put_award, find_contract}
-use Rattle.office_base.specs.States.{is_open, is_active}
-use Rattle.office_base.specs.declared.records.LotState.{LotState}
-use Rattle.office_base.specs.declared.records.AwardState.{AwardState}
-use Rattle.office_base.specs.declared.records.LineRow.{LineRow}
-use Rattle.office_base.specs.declared.records.LotRow.{LotRow}
-use Rattle.office_base.specs.declared.records.AwardRow.{AwardRow}
-use Rattle.office_base.specs.declared.records.ContractRow.{ContractRow}
-use Rattle.office_base.specs.Joined.{plus, minus, paid_under}
-use Rattle.office_machine.specs.Machine.{Given}
-use Rattle.office_machine.specs.Moves.{Free, Reserved, moves, reserved_for}
-use Rattle.office_base.proofs.ExactKeys.{equal_keys, other_keys, lots_exact}
+use Rattle.office_machine.proofs.Names.{◌≡◌, ℕ, ◌+◌, ◌≤◌, Bool, true, false, cond, List, ◌∷◌, Some, refl, sym, ◌∙◌, ap, subst, ◌⊎◌, inl, inr, arith, IsSome, nat_cmp-IsAntisymmetric, nat_cmp_total, nat_cmp, eq_by_cmp, same_id, same_number, Tables, lot_cmp, find_line, put_line, find_notice, find_lot, put_lot, find_award, put_award, find_contract, is_open, is_active, LotState, AwardState, LineRow, LotRow, AwardRow, ContractRow, plus, minus, paid_under, Given, Free, Reserved, moves, reserved_for, equal_keys, other_keys, lots_exact, own_key}
 use Rattle.office_machine.proofs.Accounts.Joins.{over_contracts-lot_kept, reserved-replaced, free-replaced}
 use Rattle.office_machine.proofs.Rows.Keyed.{found, found_put, elsewhere}
-use Rattle.office_base.proofs.RowLaws.Keyed.{own_key}
 use Rattle.office_machine.proofs.Rows.Keyed as keyed
 use Rattle.office_machine.proofs.Accounts.Kept.{AccountsStand, PotsAre, LotIs, AwardIs, reserved_over, over_contracts, is_awarded}
 use Rattle.office_machine.proofs.Passed.{split}

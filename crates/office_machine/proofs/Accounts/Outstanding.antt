@@ -1,37 +1,9 @@
 -- The outstanding amount of a contract after a command on it.
-use Rattle.std.proofs.Common.{◌≡◌, ℕ, ◌+◌, ◌≤◌, Bool, true, false, cond, ◌&&◌, List, Option, Some, None, is_some, refl, sym, ◌∙◌, ap, subst, arith, []}
-use Rattle.std.specs.Cmp.{nat_cmp_total}
-use Rattle.std.specs.List.{AllByRecursion, list_any}
-use Rattle.office_commands.specs.declared.command.Caller.{Caller}
-use Rattle.office_commands.specs.declared.commands.Command.{Command}
-use Rattle.office_commands.specs.declared.commands.Command.TheVariants.{AmendContract, Pay, End}
-use Rattle.office_commands.specs.declared.contract.ChangeKind.{ChangeKind}
+use Rattle.office_machine.proofs.Names.{◌≡◌, ℕ, ◌+◌, ◌≤◌, Bool, true, false, cond, ◌&&◌, List, Option, Some, None, is_some, refl, sym, ◌∙◌, ap, subst, arith, [], nat_cmp_total, AllByRecursion, list_any, Caller, Command, AmendContract, Pay, End, ChangeKind, How, Refusal, PerformanceRow, is_raise, is_less, entry_sum, plus, minus, outstanding, notice_of_contract, lot_of_contract, line_of_lot, holds_of, Tables, same_number, line_at, notice_at, lot_at, contract_at, find_contract, put_contract, find_entry, put_entry, entries_of_contract, after_puts, performance_at, EntryKind, LineRow, NoticeRow, LotRow, ContractRow, EntryRow, is_taken, has_ended, is_beyond, change_row, amend_contract_puts, payment_row, pay_puts, ended_contract, end_puts, Readings, Means, Given, Reaches, time_of, command_tests, left_with, left_by_payment, left_by_change, left_by_end, left_before, notice_under, line_under, IsLeft, LeftIsKnown, OutstandingIsKept, LeftIsBooked, left_of, found_key, own_key}
 use Rattle.office_commands.specs.declared.contract.ChangeKind.TheVariants as change_kinds
-use Rattle.office_commands.specs.declared.contract.How.{How}
-use Rattle.office_values.specs.declared.refusal.Refusal.{Refusal}
-use Rattle.office_base.specs.declared.records.PerformanceRow.{PerformanceRow}
-use Rattle.office_base.specs.EntryKinds.{is_raise, is_less}
-use Rattle.office_base.specs.Joined.{entry_sum, plus, minus, outstanding}
-use Rattle.office_base.specs.Parents.{notice_of_contract, lot_of_contract, line_of_lot}
-use Rattle.office_base.specs.Rows.{holds_of}
-use Rattle.office_base.specs.Tables.{Tables, same_number, line_at, notice_at, lot_at, contract_at, find_contract, put_contract, find_entry, put_entry, entries_of_contract, after_puts, performance_at}
-use Rattle.office_base.specs.declared.records.EntryKind.{EntryKind}
-use Rattle.office_base.specs.declared.records.LineRow.{LineRow}
-use Rattle.office_base.specs.declared.records.NoticeRow.{NoticeRow}
-use Rattle.office_base.specs.declared.records.LotRow.{LotRow}
-use Rattle.office_base.specs.declared.records.ContractRow.{ContractRow}
-use Rattle.office_base.specs.declared.records.EntryRow.{EntryRow}
-use Rattle.award_core.specs.Rules.AmendContract.{is_taken, has_ended, is_beyond, change_row, amend_contract_puts}
-use Rattle.award_core.specs.Rules.Pay.{payment_row, pay_puts}
-use Rattle.award_core.specs.Rules.End.{ended_contract, end_puts}
-use Rattle.office_machine.specs.Readings.{Readings}
-use Rattle.office_machine.specs.Machine.{Means, Given, Reaches, time_of, command_tests}
-use Rattle.office_machine.specs.Outstanding.{left_with, left_by_payment, left_by_change, left_by_end, left_before, notice_under, line_under, IsLeft, LeftIsKnown, OutstandingIsKept, LeftIsBooked}
-use Rattle.office_machine.specs.Replies.{left_of}
 use Rattle.office_machine.proofs.Accounts.Entered.{not_taken}
 use Rattle.office_machine.proofs.Accounts.Joins.{entry_sum-new, entry_sum-own, outstanding-own}
 use Rattle.office_machine.proofs.Rows.Keyed.{found_put}
-use Rattle.office_base.proofs.RowLaws.Keyed.{found_key, own_key}
 use Rattle.office_machine.proofs.Rows.Keyed as keyed
 use Rattle.office_machine.proofs.Accounts.Kept.{AccountsStand}
 use Rattle.office_machine.proofs.Accounts.AccountsKept.{all_kept}

@@ -1,41 +1,15 @@
 -- The amendment of a contract keeps the laws of the office.
 pub mod Gentle
-use Rattle.std.specs.Prelude.{max, IsSome, Option}
-use Rattle.std.proofs.Common.{◌≡◌, ℕ, ◌+◌, ◌-◌, ◌≤◌, Bool, true, false, cond, not, ◌&&◌, List, [], ◌∷◌, Some, None, is_some, refl, sym, ◌∙◌, ap, subst, arith, ◌||◌}
-use Rattle.std.specs.List.{AllByRecursion}
-use Rattle.office_values.specs.Ids.{same_id}
-use Rattle.office_values.specs.declared.refusal.Refusal.{Refusal}
-use Rattle.office_commands.specs.declared.command.Caller.{Caller}
-use Rattle.office_commands.specs.declared.contract.ChangeKind.{ChangeKind}
-use Rattle.office_commands.specs.declared.commands.Command.TheVariants.{AmendContract}
+use Rattle.office_machine.proofs.Names.{max, IsSome, Option, ◌≡◌, ℕ, ◌+◌, ◌-◌, ◌≤◌, Bool, true, false, cond, not, ◌&&◌, List, [], ◌∷◌, Some, None, is_some, refl, sym, ◌∙◌, ap, subst, arith, ◌||◌, AllByRecursion, same_id, Refusal, Caller, ChangeKind, AmendContract, IsSorted, same_number, Tables, line_at, notice_at, lot_at, contract_at, find_line, put_line, find_entry, put_entry, entries_of_contract, after_puts, holds_of, first_of, with_next_release, clock_put, has_all_releases, LineRow, NoticeRow, LotRow, ContractRow, EntryRow, plus, minus, outstanding, paid_under, free_in, notice_of_contract, lot_of_contract, line_of_lot, is_raise, is_less, is_payment, ClockRow, amend_contract_tests, amend_contract_rows, is_running, is_beyond, has_ended, is_raising, entry_kind, line_after, change_row, amend_contract_puts, amend_contract_lacks, HaveParents, Given, time_of, command_tests, effect, Readings, moves, line_in, raised_by, cut_by, move_of_change, found_key}
 use Rattle.office_commands.specs.declared.commands.Command.TheVariants as commands
 use Rattle.office_commands.specs.declared.contract.ChangeKind.TheVariants as change_kinds
-use Rattle.office_base.specs.Tables.{IsSorted, same_number, Tables, line_at, notice_at, lot_at, contract_at, find_line, put_line, find_entry, put_entry, entries_of_contract, after_puts}
-use Rattle.office_base.specs.Rows.{holds_of}
-use Rattle.office_base.specs.Rules.{first_of}
-use Rattle.office_base.specs.Transitions.{with_next_release, clock_put, has_all_releases}
-use Rattle.office_base.specs.declared.records.LineRow.{LineRow}
-use Rattle.office_base.specs.declared.records.NoticeRow.{NoticeRow}
-use Rattle.office_base.specs.declared.records.LotRow.{LotRow}
-use Rattle.office_base.specs.declared.records.ContractRow.{ContractRow}
-use Rattle.office_base.specs.declared.records.EntryRow.{EntryRow}
-use Rattle.office_base.specs.Joined.{plus, minus, outstanding, paid_under, free_in}
-use Rattle.office_base.specs.Parents.{notice_of_contract, lot_of_contract, line_of_lot}
-use Rattle.office_base.specs.EntryKinds.{is_raise, is_less, is_payment}
-use Rattle.office_base.specs.declared.records.ClockRow.{ClockRow}
 use Rattle.office_base.specs.declared.puts.Put.TheVariants as puts
-use Rattle.award_core.specs.Rules.AmendContract.{amend_contract_tests, amend_contract_rows, is_running, is_beyond, has_ended, is_raising, entry_kind, line_after, change_row, amend_contract_puts, amend_contract_lacks}
-use Rattle.office_machine.specs.Parents.{HaveParents}
-use Rattle.office_machine.specs.Machine.{Given, time_of, command_tests, effect}
-use Rattle.office_machine.specs.Readings.{Readings}
-use Rattle.office_machine.specs.Moves.{moves, line_in, raised_by, cut_by, move_of_change}
 use Rattle.office_machine.proofs.Parents.ParentsPut.{Grows, AllParents}
 use Rattle.office_machine.proofs.Commands.Tail.{on_contract, moved, front}
 use Rattle.office_machine.proofs.FateLaws.QuietFates.{Stands, contract_notice, kept_after, one_more}
 use Rattle.office_machine.proofs.Parents.RowsHave.{entry_has}
 use Rattle.office_machine.proofs.Accounts.Aside.{kept_aside}
 use Rattle.office_machine.proofs.Rows.Keyed.{found, still_there}
-use Rattle.office_base.proofs.RowLaws.Keyed.{found_key}
 use Rattle.office_machine.proofs.Accounts.Kept.{AccountsStand, PotsAre, ContractIs, over_contracts}
 use Rattle.office_machine.proofs.Accounts.Joins.{outstanding-own, free-replaced}
 use Rattle.office_machine.proofs.Passed.{none_holds, not_false, not_both, not_all, at_least, witness, test_of, split, neither}

@@ -1,15 +1,6 @@
 -- The amendment of a notice keeps the laws of the office.
 pub mod Gentle
-use Rattle.std.proofs.Common.{arith, ◌≡◌, ℕ, List, [], ◌∷◌, Option, Some, None, refl}
-use Rattle.std.specs.Prelude.{max}
-use Rattle.tender_core.specs.Rules.AmendNotice.{amended, amend_notice_rows, amend_notice_tests, amend_notice_puts}
-use Rattle.office_commands.specs.declared.commands.Command.TheVariants.{AmendNotice}
-use Rattle.office_base.specs.Transitions.{has_all_releases}
-use Rattle.office_base.specs.Tables.{Tables, notice_at}
-use Rattle.office_base.specs.declared.records.ClockRow.{ClockRow}
-use Rattle.office_base.specs.declared.records.NoticeRow.{NoticeRow}
-use Rattle.std.specs.List.{AllByRecursion}
-use Rattle.office_machine.specs.Machine.{time_of}
+use Rattle.office_machine.proofs.Names.{arith, ◌≡◌, ℕ, List, [], ◌∷◌, Option, Some, None, refl, max, amended, amend_notice_rows, amend_notice_tests, amend_notice_puts, AmendNotice, has_all_releases, Tables, notice_at, ClockRow, NoticeRow, AllByRecursion, time_of}
 use Rattle.office_machine.proofs.Worlds.WorldsPut.{IsPlain, plain_pairs}
 use Rattle.office_machine.proofs.Commands.Lawful.{Lawful, Idle, given}
 use Rattle.office_machine.proofs.Parents.ParentsPut.{AllParents}

@@ -3,25 +3,8 @@ pub mod Accounts
 pub mod Fates
 pub mod Gentle
 pub mod Winners
-use Rattle.std.specs.Prelude.{max, IsSome}
-use Rattle.std.proofs.Common.{arith, ◌≡◌, ℕ, false, List, [], ◌∷◌, Option, Some, None, refl, ◌∙◌, ap, Bool, filter, is_some, subst, sym, not, ◌||◌}
-use Rattle.std.specs.List.{AllByRecursion}
-use Rattle.office_commands.specs.declared.commands.Command.TheVariants.{Award}
-use Rattle.office_base.specs.declared.records.EnvelopeRow.{EnvelopeRow}
-use Rattle.office_base.specs.Tables.{IsSorted, Tables, notice_at, lot_at, line_at, envelopes_of_lot, securities_of_lot, envelope_at}
-use Rattle.office_base.specs.declared.records.LineRow.{LineRow}
-use Rattle.office_base.specs.declared.records.NoticeRow.{NoticeRow}
-use Rattle.office_base.specs.declared.records.LotRow.{LotRow}
-use Rattle.office_base.specs.Transitions.{with_next_release, has_all_releases, security_returned, is_held_security}
-use Rattle.office_base.specs.Parents.{line_of_lot}
-use Rattle.office_base.specs.declared.records.SecurityRow.{SecurityRow}
-use Rattle.office_base.specs.declared.records.ClockRow.{ClockRow}
+use Rattle.office_machine.proofs.Names.{max, IsSome, arith, ◌≡◌, ℕ, false, List, [], ◌∷◌, Option, Some, None, refl, ◌∙◌, ap, Bool, filter, is_some, subst, sym, not, ◌||◌, AllByRecursion, Award, EnvelopeRow, IsSorted, Tables, notice_at, lot_at, line_at, envelopes_of_lot, securities_of_lot, envelope_at, LineRow, NoticeRow, LotRow, with_next_release, has_all_releases, security_returned, is_held_security, line_of_lot, SecurityRow, ClockRow, IsBest, IsAnswer, of_one, best_is_found, winner, decision_puts, award_rows, award_tests, best_of, award_puts, award_lacks, ChosenTender, Pairs, HaveParents, found_key}
 use Rattle.office_base.specs.declared.puts.Put.TheVariants as puts
-use Rattle.award_core.specs.Best.{IsBest, IsAnswer}
-use Rattle.award_core.proofs.BestFound.{of_one, best_is_found}
-use Rattle.award_core.specs.Rules.Award.{winner, decision_puts, award_rows, award_tests, best_of, award_puts, award_lacks}
-use Rattle.office_machine.specs.Worlds.{ChosenTender, Pairs}
-use Rattle.office_machine.specs.Parents.{HaveParents}
 use Rattle.office_machine.proofs.Worlds.WorldsPut.{Alike, AlikeOptions, plain-map, IsPlain, PutPair, blind-option, plain_pairs}
 use Rattle.office_machine.proofs.Parents.NoOrphans.{award_is_new}
 use Rattle.office_machine.proofs.Parents.ParentsPut.{Grows, AllParents, lot_still, all-filter}
@@ -33,7 +16,6 @@ use Rattle.office_machine.proofs.Commands.Lawful.{Lawful, Moving}
 use Rattle.office_machine.proofs.Passed.{none_holds, not_false, witness}
 use Rattle.office_machine.proofs.Commands.Tail.{HasTail, moved, front, loud, returned_own}
 use Rattle.office_machine.proofs.Rows.Keyed.{all_found}
-use Rattle.office_base.proofs.RowLaws.Keyed.{found_key}
 use Rattle.office_machine.proofs.Commands.Award.Fates as award_fates
 use Rattle.office_machine.proofs.Rows.Keyed as keyed
 use Rattle.office_machine.proofs.Commands.Award.Gentle.{award_gently}

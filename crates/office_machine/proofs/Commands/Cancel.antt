@@ -2,24 +2,9 @@
 pub mod Accounts
 pub mod Fates
 pub mod Gentle
-use Rattle.std.specs.Prelude.{max, ℕ, List, IsSome}
-use Rattle.std.proofs.Common.{[], ◌∷◌, ◌≡◌, Bool, false, ◌++◌, map, filter, Option, Some, None, refl, ap, sym, arith, not, ◌||◌}
-use Rattle.std.specs.List.{AllByRecursion, list_any}
-use Rattle.office_commands.specs.declared.commands.Command.TheVariants.{Cancel}
-use Rattle.office_base.specs.declared.records.EnvelopeRow.{EnvelopeRow}
-use Rattle.office_base.specs.Tables.{IsSorted, notice_at, Tables, lots_of_notice, awards_of_notice, envelopes_of_notice, securities_of_notice, of_notice, line_at}
-use Rattle.office_base.specs.declared.records.LineRow.{LineRow}
-use Rattle.office_base.specs.declared.records.NoticeRow.{NoticeRow}
-use Rattle.office_base.specs.declared.records.LotRow.{LotRow}
-use Rattle.office_base.specs.declared.records.SecurityRow.{SecurityRow}
-use Rattle.office_base.specs.declared.records.AwardRow.{AwardRow}
-use Rattle.office_base.specs.declared.records.ClockRow.{ClockRow}
-use Rattle.office_base.specs.declared.puts.Put.{Put}
-use Rattle.office_base.specs.Transitions.{security_returned, has_all_releases, clock_put}
+use Rattle.office_machine.proofs.Names.{max, ℕ, List, IsSome, [], ◌∷◌, ◌≡◌, Bool, false, ◌++◌, map, filter, Option, Some, None, refl, ap, sym, arith, not, ◌||◌, AllByRecursion, list_any, Cancel, EnvelopeRow, IsSorted, notice_at, Tables, lots_of_notice, awards_of_notice, envelopes_of_notice, securities_of_notice, of_notice, line_at, LineRow, NoticeRow, LotRow, SecurityRow, AwardRow, ClockRow, Put, security_returned, has_all_releases, clock_put, cancel_tests, cancel_rows, is_open_lot, is_ended_award, award_put, is_ended_envelope, envelope_put, drop_put, is_ended_security, cancelled_notice, returned_envelope, cancel_puts, cancel_lacks, lacks_line, ChosenTender, Pairs, HaveParents, LotHas, EnvelopeHas, AwardHas}
 use Rattle.office_base.specs.declared.puts.Put.TheVariants as puts
-use Rattle.tender_core.specs.Rules.Cancel.{freed_line_put as cancel_line, cancelled_lot_put as cancel_lot, cancel_tests, cancel_rows, is_open_lot, is_ended_award, award_put, is_ended_envelope, envelope_put, drop_put, is_ended_security, cancelled_notice, returned_envelope, cancel_puts, cancel_lacks, lacks_line}
-use Rattle.office_machine.specs.Worlds.{ChosenTender, Pairs}
-use Rattle.office_machine.specs.Parents.{HaveParents, LotHas, EnvelopeHas, AwardHas}
+use Rattle.tender_core.specs.Rules.Cancel.{freed_line_put as cancel_line, cancelled_lot_put as cancel_lot}
 use Rattle.office_machine.proofs.Commands.Tail.{HasTail, moved, front_map, loud}
 use Rattle.office_machine.proofs.Commands.Footprint.{Notices, Envelopes, Seals, Lines, Lots, Securities, Awards}
 use Rattle.office_machine.proofs.Worlds.WorldsPut.{TwoEnvelopes, Alike, plain-map, plain-append, PutPair, Plain, receipt_is, pairs-filter, plain_pairs, pairs-append, pairs-map, alike-set}

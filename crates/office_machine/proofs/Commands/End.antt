@@ -1,38 +1,8 @@
 -- The end of a contract keeps the laws of the office.
 pub mod Gentle
-use Rattle.std.specs.Prelude.{max, Option, nat_lt}
-use Rattle.std.proofs.Common.{◌≡◌, ℕ, ◌+◌, Bool, true, false, cond, List, ◌∷◌, Some, None, is_some, refl, sym, ◌∙◌, ap, subst, ◌⊎◌, inl, inr, arith, [], not, ◌||◌, ◌&&◌}
-use Rattle.std.specs.FinMap.{nat_cmp-IsAntisymmetric}
-use Rattle.std.specs.Cmp.{nat_cmp_total}
-use Rattle.std.specs.List.{AllByRecursion}
-use Rattle.std.specs.Ordering.{nat_cmp, eq_by_cmp}
-use Rattle.office_values.specs.Ids.{same_id}
-use Rattle.office_values.specs.declared.refusal.Refusal.{Refusal}
-use Rattle.office_commands.specs.declared.command.Caller.{Caller}
-use Rattle.office_commands.specs.declared.contract.How.{How}
-use Rattle.office_commands.specs.declared.commands.Command.TheVariants.{End}
+use Rattle.office_machine.proofs.Names.{max, Option, nat_lt, ◌≡◌, ℕ, ◌+◌, Bool, true, false, cond, List, ◌∷◌, Some, None, is_some, refl, sym, ◌∙◌, ap, subst, ◌⊎◌, inl, inr, arith, [], not, ◌||◌, ◌&&◌, nat_cmp-IsAntisymmetric, nat_cmp_total, AllByRecursion, nat_cmp, eq_by_cmp, same_id, Refusal, Caller, How, End, IsSorted, same_number, Tables, line_at, notice_at, lot_at, contract_at, find_line, put_line, find_contract, put_contract, entries_of_contract, after_puts, performance_at, of_notice, first_of, holds_of, with_next_release, clock_put, performance_settled, put_if, settled_performance, LineRow, NoticeRow, LotRow, ContractRow, plus, minus, outstanding, paid_under, notice_of_contract, lot_of_contract, line_of_lot, PerformanceRow, EntryRow, ClockRow, other_keys, end_tests, end_rows, ended_contract, ended_state, end_puts, end_lacks, lacks_performance, has_ended, HaveParents, Given, time_of, command_tests, effect, Readings, moves, brought, taken, owed, line_in, found_key, own_key}
 use Rattle.office_commands.specs.declared.commands.Command.TheVariants as commands
-use Rattle.office_base.specs.Tables.{IsSorted, same_number, Tables, line_at, notice_at, lot_at, contract_at, find_line, put_line, find_contract, put_contract, entries_of_contract, after_puts, performance_at, of_notice}
-use Rattle.office_base.specs.Rules.{first_of}
-use Rattle.office_base.specs.Rows.{holds_of}
-use Rattle.office_base.specs.Transitions.{with_next_release, clock_put, performance_settled, put_if, settled_performance}
-use Rattle.office_base.specs.declared.records.LineRow.{LineRow}
-use Rattle.office_base.specs.declared.records.NoticeRow.{NoticeRow}
-use Rattle.office_base.specs.declared.records.LotRow.{LotRow}
-use Rattle.office_base.specs.declared.records.ContractRow.{ContractRow}
-use Rattle.office_base.specs.Joined.{plus, minus, outstanding, paid_under}
-use Rattle.office_base.specs.Parents.{notice_of_contract, lot_of_contract, line_of_lot}
-use Rattle.office_base.specs.declared.records.PerformanceRow.{PerformanceRow}
-use Rattle.office_base.specs.declared.records.EntryRow.{EntryRow}
-use Rattle.office_base.specs.declared.records.ClockRow.{ClockRow}
 use Rattle.office_base.specs.declared.puts.Put.TheVariants as puts
-use Rattle.office_base.proofs.ExactKeys.{other_keys}
-use Rattle.award_core.specs.Rules.End.{end_tests, end_rows, ended_contract, ended_state, end_puts, end_lacks, lacks_performance}
-use Rattle.award_core.specs.Rules.AmendContract.{has_ended}
-use Rattle.office_machine.specs.Parents.{HaveParents}
-use Rattle.office_machine.specs.Machine.{Given, time_of, command_tests, effect}
-use Rattle.office_machine.specs.Readings.{Readings}
-use Rattle.office_machine.specs.Moves.{moves, brought, taken, owed, line_in}
 use Rattle.office_machine.proofs.Parents.SpokenOf.{of_contract}
 use Rattle.office_machine.proofs.Parents.Whole.{IsWhole, less, line_there, not_overdrawn}
 use Rattle.office_machine.proofs.Parents.ParentsPut.{Grows, AllParents, contract_still, parents-if}
@@ -41,7 +11,6 @@ use Rattle.office_machine.proofs.Commands.Tail.{on_contract, moved, bonded, fron
 use Rattle.office_machine.proofs.FateLaws.QuietFates.{Stands, contract_notice, kept_after, one_more}
 use Rattle.office_machine.proofs.Accounts.Aside.{kept_aside, aside-if}
 use Rattle.office_machine.proofs.Rows.Keyed.{found, still_there, none_before}
-use Rattle.office_base.proofs.RowLaws.Keyed.{found_key, own_key}
 use Rattle.office_machine.proofs.Accounts.Kept.{AccountsStand, PotsAre, ContractIs, NoContractIs, over_contracts}
 use Rattle.office_machine.proofs.Accounts.Joins.{outstanding-own, over_contracts-replaced, free-replaced}
 use Rattle.office_machine.proofs.Passed.{none_holds, not_false, witness, test_of, split}

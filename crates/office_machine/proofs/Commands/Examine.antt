@@ -1,24 +1,7 @@
 -- The examination of a tender keeps the laws of the office.
 pub mod Gentle
-use Rattle.std.specs.Prelude.{max, cond, List}
-use Rattle.std.proofs.Common.{arith, ◌≡◌, ℕ, Bool, [], ◌∷◌, Option, Some, None, refl, sym, ap, ◌∙◌, false, not, ◌||◌}
-use Rattle.std.specs.Cmp.{nat_cmp_total}
-use Rattle.std.specs.FinMap.{nat_cmp-IsAntisymmetric}
-use Rattle.std.specs.Ordering.{nat_cmp, eq_by_cmp}
-use Rattle.office_commands.specs.declared.commands.Command.TheVariants.{Examine}
-use Rattle.office_commands.specs.declared.command.Caller.{Caller}
-use Rattle.office_base.specs.Tables.{find_envelope, Tables, envelope_at, envelope_key, after_puts}
-use Rattle.office_base.specs.Parents.{notice_of_envelope, lot_of_envelope}
-use Rattle.office_base.specs.declared.records.EnvelopeRow.{EnvelopeRow}
-use Rattle.office_base.specs.declared.records.ClockRow.{ClockRow}
-use Rattle.office_base.specs.Transitions.{clock_put}
+use Rattle.office_machine.proofs.Names.{max, cond, List, arith, ◌≡◌, ℕ, Bool, [], ◌∷◌, Option, Some, None, refl, sym, ap, ◌∙◌, false, not, ◌||◌, nat_cmp_total, nat_cmp-IsAntisymmetric, nat_cmp, eq_by_cmp, Examine, Caller, find_envelope, Tables, envelope_at, envelope_key, after_puts, notice_of_envelope, lot_of_envelope, EnvelopeRow, ClockRow, clock_put, examine_rows, examine_tests, examined, examine_puts, examine_lacks, ChosenTender, Pairs, HaveParents, Given, Readings, is_kept, found_key}
 use Rattle.office_base.specs.declared.puts.Put.TheVariants as puts
-use Rattle.award_core.specs.Rules.Examine.{examine_rows, examine_tests, examined, examine_puts, examine_lacks}
-use Rattle.office_machine.specs.Worlds.{ChosenTender, Pairs}
-use Rattle.office_machine.specs.Parents.{HaveParents}
-use Rattle.office_machine.specs.Machine.{Given}
-use Rattle.office_machine.specs.Readings.{Readings}
-use Rattle.office_machine.specs.Fates.{is_kept}
 use Rattle.office_machine.proofs.Commands.Lawful.{given, Lawful, Idle}
 use Rattle.office_machine.proofs.Worlds.WorldsPut.{TwoEnvelopes, AlikeOptions, PutPair, Plain, alike-set}
 use Rattle.office_machine.proofs.Parents.ParentsPut.{Grows, AllParents, envelope_still}
@@ -26,7 +9,6 @@ use Rattle.office_machine.proofs.Worlds.WorldsRows.{envelope_pair}
 use Rattle.office_machine.proofs.Passed.{none_holds, not_false, witness}
 use Rattle.office_machine.proofs.Commands.Tail.{moved, front, quiet}
 use Rattle.office_machine.proofs.Rows.RowsChanged.{row_at-changed_put}
-use Rattle.office_base.proofs.RowLaws.Keyed.{found_key}
 use Rattle.office_machine.proofs.FateLaws.Views.{Change, after_change}
 use Rattle.office_machine.proofs.FateLaws.Steps.{cond_keeps, examination, fair_examination}
 use Rattle.office_machine.proofs.FateLaws.Seen.{seen, alike}

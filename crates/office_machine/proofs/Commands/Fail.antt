@@ -2,24 +2,8 @@
 pub mod Accounts
 pub mod Fates
 pub mod Gentle
-use Rattle.std.specs.Prelude.{max, ℕ}
-use Rattle.std.proofs.Common.{[], ◌∷◌, refl, ◌≡◌, Bool, Option, Some, None, option_map, sym, ◌∙◌, ap, arith, subst, false, not, ◌||◌}
-use Rattle.office_commands.specs.declared.commands.Command.TheVariants.{Fail}
-use Rattle.office_base.specs.declared.records.EnvelopeRow.{EnvelopeRow}
-use Rattle.office_base.specs.Parents.{notice_of_award, lot_of_award, envelope_of_award, security_of_envelope}
-use Rattle.office_base.specs.Tables.{award_at, Tables, envelope_at}
-use Rattle.office_base.specs.Rows.{holds_of}
-use Rattle.office_base.specs.Transitions.{with_next_release, has_all_releases, security_settled, passed_over, put_if, lacks_security}
-use Rattle.office_base.specs.declared.records.NoticeRow.{NoticeRow}
-use Rattle.office_base.specs.declared.records.LotRow.{LotRow}
-use Rattle.office_base.specs.declared.records.SecurityRow.{SecurityRow}
-use Rattle.office_base.specs.declared.records.AwardRow.{AwardRow}
-use Rattle.office_base.specs.declared.records.SecurityState.TheVariants.{Forfeited}
-use Rattle.office_base.specs.declared.records.ClockRow.{ClockRow}
+use Rattle.office_machine.proofs.Names.{max, ℕ, [], ◌∷◌, refl, ◌≡◌, Bool, Option, Some, None, option_map, sym, ◌∙◌, ap, arith, subst, false, not, ◌||◌, Fail, EnvelopeRow, notice_of_award, lot_of_award, envelope_of_award, security_of_envelope, award_at, Tables, envelope_at, holds_of, with_next_release, has_all_releases, security_settled, passed_over, put_if, lacks_security, NoticeRow, LotRow, SecurityRow, AwardRow, Forfeited, ClockRow, fail_tests, fail_rows, fail_puts, fail_lacks, ChosenTender, Pairs, HaveParents, EnvelopeHas}
 use Rattle.office_base.specs.declared.puts.Put.TheVariants as puts
-use Rattle.award_core.specs.Rules.Fail.{fail_tests, fail_rows, fail_puts, fail_lacks}
-use Rattle.office_machine.specs.Worlds.{ChosenTender, Pairs}
-use Rattle.office_machine.specs.Parents.{HaveParents, EnvelopeHas}
 use Rattle.office_machine.proofs.Commands.Footprint.{TableName, touches, on-append, on-if}
 use Rattle.office_machine.proofs.Worlds.WorldsPut.{TwoEnvelopes, AlikeOptions, plain-if, PutPair, Plain, blind-option, plain_pairs, pairs-append, alike-set}
 use Rattle.office_machine.proofs.Parents.ParentsPut.{Grows, AllParents, envelope_still, award_still, parents-append, parents-if}

@@ -1,13 +1,7 @@
 -- The table of a put. A put leaves the other tables as they are.
-use Rattle.std.proofs.Common.{◌≡◌, Bool, true, false, List, [], ◌∷◌, ◌++◌, map, Option, Some, None, refl, sym, ap, ◌∙◌}
-use Rattle.std.specs.Prelude.{◌||◌}
-use Rattle.std.specs.List.{AllByRecursion, list_any}
-use Rattle.office_commands.specs.declared.commands.Command.{Command}
+use Rattle.office_machine.proofs.Names.{◌≡◌, Bool, true, false, List, [], ◌∷◌, ◌++◌, map, Option, Some, None, refl, sym, ap, ◌∙◌, ◌||◌, AllByRecursion, list_any, Command, Put, put_if, Tables, after_put, after_puts}
 use Rattle.office_commands.specs.declared.commands.Command.TheVariants as commands
-use Rattle.office_base.specs.declared.puts.Put.{Put}
 use Rattle.office_base.specs.declared.puts.Put.TheVariants as puts
-use Rattle.office_base.specs.Transitions.{put_if}
-use Rattle.office_base.specs.Tables.{Tables, after_put, after_puts}
 use Rattle.office_machine.proofs.Passed.{neither}
 
 -- the tables of an office

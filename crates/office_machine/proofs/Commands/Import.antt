@@ -2,14 +2,8 @@
 pub mod Accounts
 pub mod Columns
 pub mod Gentle
-use Rattle.std.proofs.Common.{[], ◌∷◌, refl, arith}
-use Rattle.std.specs.Prelude.{ℕ, ◌||◌, List, map}
-use Rattle.office_commands.specs.declared.commands.Command.TheVariants.{Import}
-use Rattle.office_commands.specs.declared.budget.BudgetRow.{BudgetRow}
-use Rattle.office_base.specs.Standings.{standings}
+use Rattle.office_machine.proofs.Names.{[], ◌∷◌, refl, arith, ℕ, ◌||◌, List, map, Import, BudgetRow, standings, imported_line_put, import_puts, import_rows, after_rows, import_tests, Readings}
 use Rattle.office_base.specs.declared.puts.Put.TheVariants as puts
-use Rattle.tender_core.specs.Rules.Import.{imported_line_put, import_puts, import_rows, after_rows, import_tests}
-use Rattle.office_machine.specs.Readings.{Readings}
 use Rattle.office_machine.proofs.Commands.Lawful.{given, Lawful, Moving}
 use Rattle.office_machine.proofs.Worlds.WorldsPut.{plain-map, plain-append, plain_pairs}
 use Rattle.office_machine.proofs.Commands.Import.Accounts.{import_keeps, covered}

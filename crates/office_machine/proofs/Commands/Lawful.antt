@@ -1,15 +1,5 @@
 -- The facts about one command from which the laws of the office follow.
-use Rattle.std.specs.Prelude.{◌≡◌, ℕ, true, false, max, List, ◌∷◌, None}
-use Rattle.office_commands.specs.declared.command.Caller.{Caller}
-use Rattle.office_commands.specs.declared.commands.Command.{Command}
-use Rattle.office_base.specs.Rules.{first_of}
-use Rattle.office_base.specs.Tables.{Tables, IsSorted, after_puts}
-use Rattle.office_machine.specs.Readings.{Readings}
-use Rattle.office_commands.specs.Commands.{IsCommand}
-use Rattle.office_machine.specs.Machine.{Given, IsRegistered, may_give, tests_for, puts_for}
-use Rattle.office_machine.specs.Parents.{HaveParents}
-use Rattle.office_machine.specs.Publications.{published_for}
-use Rattle.office_machine.specs.Commands.{rule_of}
+use Rattle.office_machine.proofs.Names.{◌≡◌, ℕ, true, false, max, List, ◌∷◌, None, Caller, Command, first_of, Tables, IsSorted, after_puts, Readings, IsCommand, Given, IsRegistered, may_give, tests_for, puts_for, HaveParents, published_for, rule_of}
 use Rattle.office_machine.proofs.Accounts.Aside.{IsIdle}
 use Rattle.office_machine.proofs.Commands.Footprint.{touches}
 use Rattle.office_machine.proofs.Accounts.Idle.{touches_books}

@@ -1,19 +1,9 @@
 -- The replacement of a tender keeps the laws of the office.
 pub mod Fates
 pub mod Gentle
-use Rattle.std.specs.Prelude.{max, ℕ, List}
-use Rattle.std.proofs.Common.{[], ◌∷◌, refl, ◌≡◌, Bool, false, Option, Some, None, sym, ◌∙◌, ap, arith, ◌+◌, length, not, ◌||◌}
-use Rattle.office_commands.specs.declared.commands.Command.TheVariants.{Modify}
-use Rattle.office_base.specs.declared.records.EnvelopeRow.{EnvelopeRow}
-use Rattle.office_base.specs.Tables.{envelope_at, Tables}
-use Rattle.office_base.specs.Parents.{notice_of_envelope}
-use Rattle.office_base.specs.Rows.{holds_of}
-use Rattle.office_base.specs.declared.records.ClockRow.{ClockRow}
+use Rattle.office_machine.proofs.Names.{max, ℕ, List, [], ◌∷◌, refl, ◌≡◌, Bool, false, Option, Some, None, sym, ◌∙◌, ap, arith, ◌+◌, length, not, ◌||◌, Modify, EnvelopeRow, envelope_at, Tables, notice_of_envelope, holds_of, ClockRow, modify_tests, modify_rows, withdrawn, replacing, modify_puts, modify_lacks, ChosenTender, Pairs, is_theirs, HaveParents}
 use Rattle.office_base.specs.declared.puts.Put.TheVariants as puts
 use Rattle.office_base.specs.declared.records.EnvelopeState.TheVariants as envelope_states
-use Rattle.tender_core.specs.Rules.Modify.{modify_tests, modify_rows, withdrawn, replacing, modify_puts, modify_lacks}
-use Rattle.office_machine.specs.Worlds.{ChosenTender, Pairs, is_theirs}
-use Rattle.office_machine.specs.Parents.{HaveParents}
 use Rattle.office_machine.proofs.Worlds.WorldsPut.{TwoEnvelopes, TwoSeals, AlikeOptions, PutPair, Plain, receipt_is, alike-set}
 use Rattle.office_machine.proofs.Parents.NoOrphans.{isnt_torn, receipt_is_new}
 use Rattle.office_machine.proofs.Parents.ParentsPut.{Grows, AllParents, envelope_still}

@@ -1,22 +1,8 @@
 -- The opening of the tenders of a notice keeps the laws of the office.
 pub mod Fates
 pub mod Gentle
-use Rattle.std.specs.Prelude.{max, ℕ, List}
-use Rattle.std.proofs.Common.{[], ◌∷◌, refl, ◌≡◌, Bool, map, filter, Option, Some, None, sym, ◌∙◌, ap, arith}
-use Rattle.std.specs.List.{AllByRecursion}
-use Rattle.office_commands.specs.declared.item.Item.{Item}
-use Rattle.office_commands.specs.declared.commands.Command.TheVariants.{Open}
-use Rattle.office_base.specs.declared.reading.Reading.{Reading}
-use Rattle.office_base.specs.Tables.{find_seal, seal_at, IsSorted, notice_at, Tables, envelopes_of_notice, lot_at}
-use Rattle.office_base.specs.declared.records.SealRow.{SealRow}
-use Rattle.office_base.specs.declared.records.EnvelopeRow.{EnvelopeRow}
-use Rattle.office_base.specs.declared.records.NoticeRow.{NoticeRow}
-use Rattle.office_base.specs.declared.records.ClockRow.{ClockRow}
+use Rattle.office_machine.proofs.Names.{max, ℕ, List, [], ◌∷◌, refl, ◌≡◌, Bool, map, filter, Option, Some, None, sym, ◌∙◌, ap, arith, AllByRecursion, Item, Open, Reading, find_seal, seal_at, IsSorted, notice_at, Tables, envelopes_of_notice, lot_at, SealRow, EnvelopeRow, NoticeRow, ClockRow, open_tests, open_rows, opened_put, opened_notice, is_sealed_envelope, opened_envelope, open_puts, sealed_tenders, sealed_tender, bytes_in, items_of_row, ChosenTender, Pairs, HaveParents, EnvelopeHas}
 use Rattle.office_base.specs.declared.records.EnvelopeState.TheVariants as envelope_states
-use Rattle.tender_core.specs.Rules.Open.{open_tests, open_rows, opened_put, opened_notice, is_sealed_envelope, opened_envelope, open_puts}
-use Rattle.office_machine.specs.Rule.{sealed_tenders, sealed_tender, bytes_in, items_of_row}
-use Rattle.office_machine.specs.Worlds.{ChosenTender, Pairs}
-use Rattle.office_machine.specs.Parents.{HaveParents, EnvelopeHas}
 use Rattle.office_machine.proofs.Worlds.WorldsPut.{TwoEnvelopes, Alike, PutPair, Plain, receipt_is, pairs-filter, blind, pairs-append}
 use Rattle.office_machine.proofs.Parents.NoOrphans.{no_tender_lost}
 use Rattle.office_machine.proofs.Parents.ParentsPut.{Grows, AllParents, envelope_still, parents-append, all-filter, all-table}

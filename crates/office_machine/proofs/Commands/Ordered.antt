@@ -1,16 +1,5 @@
 -- The refusals of each command are in the order of their numbers.
-use Rattle.std.proofs.Common.{◌≡◌, ℕ, ◌≤◌, Bool, true, false, cond, ◌&&◌, List, [], ◌∷◌, Some, nat_le, refl, ap, arith}
-use Rattle.std.proofs.lemmas.Bool.Decides.{nat_tests}
-use Rattle.office_commands.specs.declared.command.Caller.{Caller}
-use Rattle.office_commands.specs.declared.commands.Command.{Command}
-use Rattle.office_commands.specs.declared.commands.Command.TheVariants.{Import}
-use Rattle.office_base.specs.Tables.{Tables}
-use Rattle.std.specs.List.{AllByRecursion}
-use Rattle.office_machine.specs.Order.{IsLeast, LeastIsAnswered, NumbersNeverFall, NeverFall}
-use Rattle.office_values.specs.declared.refusal.Refusal.{Refusal}
-use Rattle.office_values.specs.Refusals.{number_of_refusal}
-use Rattle.office_base.specs.Rules.{first_of}
-use Rattle.office_machine.specs.Machine.{tests, tests_for, command_tests}
+use Rattle.office_machine.proofs.Names.{◌≡◌, ℕ, ◌≤◌, Bool, true, false, cond, ◌&&◌, List, [], ◌∷◌, Some, nat_le, refl, ap, arith, nat_tests, Caller, Command, Import, Tables, AllByRecursion, IsLeast, LeastIsAnswered, NumbersNeverFall, NeverFall, Refusal, number_of_refusal, first_of, tests, tests_for, command_tests}
 
 -- no refusal has a lower number than n, or than the one before it
 abbrev pub rises : ℕ → List (Bool × Refusal) → Bool

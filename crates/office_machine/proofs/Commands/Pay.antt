@@ -1,36 +1,13 @@
 -- A payment keeps the laws of the office.
 pub mod Gentle
-use Rattle.std.specs.Prelude.{max, Option}
-use Rattle.std.proofs.Common.{◌≡◌, ℕ, ◌+◌, ◌≤◌, Bool, true, false, cond, List, [], ◌∷◌, Some, None, is_some, refl, sym, ◌∙◌, ap, subst, arith, not}
-use Rattle.std.specs.List.{AllByRecursion}
-use Rattle.office_values.specs.Ids.{same_id}
-use Rattle.office_values.specs.declared.refusal.Refusal.{Refusal}
-use Rattle.office_commands.specs.declared.command.Caller.{Caller}
-use Rattle.office_commands.specs.declared.commands.Command.TheVariants.{Pay}
+use Rattle.office_machine.proofs.Names.{max, Option, ◌≡◌, ℕ, ◌+◌, ◌≤◌, Bool, true, false, cond, List, [], ◌∷◌, Some, None, is_some, refl, sym, ◌∙◌, ap, subst, arith, not, AllByRecursion, same_id, Refusal, Caller, Pay, IsSorted, same_number, Tables, notice_at, lot_at, contract_at, find_entry, put_entry, entries_of_contract, after_puts, first_of, with_next_release, clock_put, has_all_releases, NoticeRow, LotRow, ContractRow, EntryRow, plus, minus, outstanding, notice_of_contract, lot_of_contract, ClockRow, is_beyond, has_ended, payment_row, pay_rows, pay_tests, pay_puts, pay_lacks, HaveParents, Given, time_of, command_tests, effect, Readings, moves, line_in, found_key}
 use Rattle.office_commands.specs.declared.commands.Command.TheVariants as commands
-use Rattle.office_base.specs.Tables.{IsSorted, same_number, Tables, notice_at, lot_at, contract_at, find_entry, put_entry, entries_of_contract, after_puts}
-use Rattle.office_base.specs.Rules.{first_of}
-use Rattle.office_base.specs.Transitions.{with_next_release, clock_put, has_all_releases}
-use Rattle.office_base.specs.declared.records.NoticeRow.{NoticeRow}
-use Rattle.office_base.specs.declared.records.LotRow.{LotRow}
-use Rattle.office_base.specs.declared.records.ContractRow.{ContractRow}
-use Rattle.office_base.specs.declared.records.EntryRow.{EntryRow}
-use Rattle.office_base.specs.Joined.{plus, minus, outstanding}
-use Rattle.office_base.specs.Parents.{notice_of_contract, lot_of_contract}
-use Rattle.office_base.specs.declared.records.ClockRow.{ClockRow}
 use Rattle.office_base.specs.declared.puts.Put.TheVariants as puts
-use Rattle.award_core.specs.Rules.AmendContract.{is_beyond, has_ended}
-use Rattle.award_core.specs.Rules.Pay.{payment_row, pay_rows, pay_tests, pay_puts, pay_lacks}
-use Rattle.office_machine.specs.Parents.{HaveParents}
-use Rattle.office_machine.specs.Machine.{Given, time_of, command_tests, effect}
-use Rattle.office_machine.specs.Readings.{Readings}
-use Rattle.office_machine.specs.Moves.{moves, line_in}
 use Rattle.office_machine.proofs.Parents.ParentsPut.{Grows, AllParents}
 use Rattle.office_machine.proofs.Commands.Tail.{on_contract, moved, front}
 use Rattle.office_machine.proofs.FateLaws.QuietFates.{Stands, contract_notice, kept_after, one_more}
 use Rattle.office_machine.proofs.Parents.RowsHave.{entry_has}
 use Rattle.office_machine.proofs.Accounts.Aside.{kept_aside}
-use Rattle.office_base.proofs.RowLaws.Keyed.{found_key}
 use Rattle.office_machine.proofs.Accounts.Kept.{AccountsStand, PotsAre, ContractIs}
 use Rattle.office_machine.proofs.Accounts.Joins.{outstanding-own}
 use Rattle.office_machine.proofs.Passed.{none_holds, not_false, not_both, at_least, witness, test_of, neither}

@@ -1,22 +1,9 @@
 -- The submission of a tender keeps the laws of the office.
 pub mod Fates
 pub mod Gentle
-use Rattle.std.specs.Prelude.{max, ℕ, List, Option, IsSome}
-use Rattle.std.proofs.Common.{◌+◌, [], ◌∷◌, refl, is_some, ◌≡◌, Bool, true, false, Some, None, option_map, sym, ◌∙◌, ap, arith, subst, length}
-use Rattle.office_commands.specs.declared.commands.Command.TheVariants.{Present}
-use Rattle.office_commands.specs.declared.tender.NamedSecurity.{NamedSecurity}
-use Rattle.office_commands.specs.declared.command.Caller.{Caller}
-use Rattle.office_commands.specs.declared.command.Caller.TheVariants.{Public, Clerk, Tenderer}
-use Rattle.office_commands.specs.Callers.{tenderer_of}
-use Rattle.office_commands.specs.Rights.{is_tenderer}
-use Rattle.office_base.specs.Tables.{notice_at, lot_at, Tables, tenderer_at, security_at, after_puts}
-use Rattle.office_base.specs.Rows.{holds_of}
-use Rattle.office_base.specs.Transitions.{is_in_time, put_if}
-use Rattle.office_base.specs.declared.records.ClockRow.{ClockRow}
+use Rattle.office_machine.proofs.Names.{max, ℕ, List, Option, IsSome, ◌+◌, [], ◌∷◌, refl, is_some, ◌≡◌, Bool, true, false, Some, None, option_map, sym, ◌∙◌, ap, arith, subst, length, Present, NamedSecurity, Caller, Public, Clerk, Tenderer, tenderer_of, is_tenderer, notice_at, lot_at, Tables, tenderer_at, security_at, after_puts, holds_of, is_in_time, put_if, ClockRow, received_puts, seal_puts, security_put, received, ChosenTender, Pairs, is_theirs, command_tests, IsRegistered}
 use Rattle.office_base.specs.declared.puts.Put.TheVariants as puts
-use Rattle.tender_core.specs.Rules.Present.{security_row, received_puts, seal_puts, security_put, received}
-use Rattle.office_machine.specs.Worlds.{ChosenTender, Pairs, is_theirs}
-use Rattle.office_machine.specs.Machine.{command_tests, IsRegistered}
+use Rattle.tender_core.specs.Rules.Present.{security_row}
 use Rattle.office_machine.proofs.Commands.Tail.{HasTail, front, quiet}
 use Rattle.office_machine.proofs.Commands.Footprint.{Envelopes, Seals, Securities}
 use Rattle.office_machine.proofs.Worlds.WorldsPut.{TwoEnvelopes, TwoSeals, plain-if, PutPair, Plain, plain_pairs, pairs-append}

@@ -3,22 +3,9 @@ pub mod Accounts
 pub mod Fates
 pub mod Gentle
 pub mod Rows
-use Rattle.std.specs.Prelude.{max, IsSome, ℕ, List}
-use Rattle.std.proofs.Common.{[], ◌∷◌, sym, subst, map, ◌++◌, ◌≡◌, Bool, false, Option, Some, None, is_some, refl, ◌∙◌, ap, arith}
-use Rattle.std.specs.List.{AllByRecursion}
-use Rattle.office_commands.specs.declared.commands.Command.TheVariants.{Publish}
-use Rattle.office_commands.specs.declared.notice.NewNotice.{NewNotice}
-use Rattle.office_commands.specs.declared.notice.LateWithdrawal.{LateWithdrawal}
-use Rattle.office_commands.specs.declared.notice.LateWithdrawal.TheVariants.{Refused, Forfeits}
-use Rattle.office_commands.specs.declared.lot.NewLot.{NewLot}
-use Rattle.office_base.specs.Tables.{notice_at, Tables, after_puts}
-use Rattle.office_base.specs.declared.records.NoticeRow.{NoticeRow}
-use Rattle.office_base.specs.declared.records.ClockRow.{ClockRow}
-use Rattle.office_base.specs.declared.puts.Put.{Put}
+use Rattle.office_machine.proofs.Names.{max, IsSome, ℕ, List, [], ◌∷◌, sym, subst, map, ◌++◌, ◌≡◌, Bool, false, Option, Some, None, is_some, refl, ◌∙◌, ap, arith, AllByRecursion, Publish, NewNotice, LateWithdrawal, Forfeits, NewLot, notice_at, Tables, after_puts, NoticeRow, ClockRow, Put, publish_tests, publish_rows, publish_parts, late_puts, reserving_line_put, new_lot_put, notice_row, publish_puts, command_tests, time_of, releases_in}
+use Rattle.office_commands.specs.declared.notice.LateWithdrawal.TheVariants.{Refused}
 use Rattle.office_base.specs.declared.puts.Put.TheVariants as puts
-use Rattle.tender_core.specs.Rules.Publish.{publish_tests, publish_rows, publish_parts, late_puts, reserving_line_put, new_lot_put, notice_row, publish_puts}
-use Rattle.office_machine.specs.Machine.{command_tests, time_of}
-use Rattle.office_machine.specs.Counted.{releases_in}
 use Rattle.office_machine.proofs.Commands.Tail.{AsksAsBefore, HasTail, is_own, front, back, counted}
 use Rattle.office_machine.proofs.Parents.NoOrphans.{no_rows_of_notice}
 use Rattle.office_machine.proofs.Parents.ParentsPut.{Grows, Parents, AllParents, parents-append, parents-map, parents-all}

@@ -1,9 +1,6 @@
 -- The registration of a tenderer keeps the laws of the office.
-use Rattle.std.proofs.Common.{arith, ℕ, List, [], ◌∷◌, refl, None}
-use Rattle.office_commands.specs.declared.commands.Command.TheVariants.{Register}
+use Rattle.office_machine.proofs.Names.{arith, ℕ, List, [], ◌∷◌, refl, None, Register, register_puts, time_of}
 use Rattle.office_base.specs.declared.puts.Put.TheVariants as puts
-use Rattle.tender_core.specs.Rules.Register.{register_puts}
-use Rattle.office_machine.specs.Machine.{time_of}
 use Rattle.office_machine.proofs.Worlds.WorldsPut.{Plain}
 use Rattle.office_machine.proofs.Commands.Lawful.{Lawful, Idle, given}
 use Rattle.office_machine.proofs.FateLaws.QuietFates.{kept_after, one_more}

@@ -2,25 +2,9 @@
 pub mod Accounts
 pub mod Fates
 pub mod Gentle
-use Rattle.std.specs.Prelude.{max, ℕ, Option, option_and_then, IsSome}
-use Rattle.std.proofs.Common.{[], ◌∷◌, refl, ◌≡◌, Bool, true, false, List, ◌++◌, map, filter, Some, None, is_some, option_map, sym, ◌∙◌, ap, arith, subst, not, ◌||◌}
-use Rattle.std.specs.List.{AllByRecursion}
-use Rattle.office_commands.specs.declared.commands.Command.TheVariants.{Sign}
-use Rattle.office_commands.specs.declared.tender.NamedSecurity.{NamedSecurity}
-use Rattle.office_base.specs.Tables.{securities_of_lot, IsSorted, award_at, contract_at, Tables, envelope_at, tenderer_at, after_puts}
-use Rattle.office_base.specs.Parents.{securities_of_award, notice_of_award, lot_of_award, envelope_of_award}
-use Rattle.office_base.specs.declared.records.EnvelopeRow.{EnvelopeRow}
-use Rattle.office_base.specs.Transitions.{with_next_release, has_all_releases, security_returned, put_if, securities_returned, is_held_security, clock_put}
-use Rattle.office_base.specs.declared.records.NoticeRow.{NoticeRow}
-use Rattle.office_base.specs.declared.records.LotRow.{LotRow}
-use Rattle.office_base.specs.declared.records.SecurityRow.{SecurityRow}
-use Rattle.office_base.specs.declared.records.AwardRow.{AwardRow}
-use Rattle.office_base.specs.declared.records.ClockRow.{ClockRow}
-use Rattle.office_base.specs.declared.puts.Put.{Put}
+use Rattle.office_machine.proofs.Names.{max, ℕ, Option, option_and_then, IsSome, [], ◌∷◌, refl, ◌≡◌, Bool, true, false, List, ◌++◌, map, filter, Some, None, is_some, option_map, sym, ◌∙◌, ap, arith, subst, not, ◌||◌, AllByRecursion, Sign, NamedSecurity, securities_of_lot, IsSorted, award_at, contract_at, Tables, envelope_at, tenderer_at, after_puts, securities_of_award, notice_of_award, lot_of_award, envelope_of_award, EnvelopeRow, with_next_release, has_all_releases, security_returned, put_if, securities_returned, is_held_security, clock_put, NoticeRow, LotRow, SecurityRow, AwardRow, ClockRow, Put, sign_tests, sign_rows, sign_puts, sign_parts, tenderer_in, performance_put, signed_award, contracted_lot, contract_row, sign_lacks, ChosenTender, Pairs, HaveParents}
 use Rattle.office_base.specs.declared.puts.Put.TheVariants as puts
-use Rattle.award_core.specs.Rules.Sign.{sign_tests, sign_rows, sign_puts, sign_parts, performance_row, tenderer_in, performance_put, signed_award, contracted_lot, contract_row, sign_lacks}
-use Rattle.office_machine.specs.Worlds.{ChosenTender, Pairs}
-use Rattle.office_machine.specs.Parents.{HaveParents}
+use Rattle.award_core.specs.Rules.Sign.{performance_row}
 use Rattle.office_machine.proofs.Worlds.WorldsPut.{Alike, plain-map, plain-append, plain-if, IsPlain, PutPair, blind-option, plain_pairs}
 use Rattle.office_machine.proofs.Parents.NoOrphans.{contract_is_new, price_is_reserved, winner_has_security}
 use Rattle.office_machine.proofs.Parents.ParentsPut.{Grows, grows-puts, AllParents, envelope_still, award_still, parents-append, parents-if}

@@ -1,28 +1,10 @@
 -- A command puts its own rows, the clock and, if it publishes, its notice with one release more. It puts no release and no merge.
-use Rattle.std.proofs.Common.{[], ◌≡◌, ℕ, ◌+◌, ◌≤◌, ◌<◌, Bool, true, false, List, ◌∷◌, ◌++◌, map, filter, Option, Some, None, option_map, nat_le, refl, sym, ◌∙◌, ap, subst, arith}
-use Rattle.std.specs.Prelude.{option_and_then}
-use Rattle.std.proofs.lemmas.Bool.Decides.{nat_tests}
-use Rattle.office_commands.specs.declared.commands.Command.{Command}
-use Rattle.office_commands.specs.declared.commands.Command.TheVariants.{Sign, End}
-use Rattle.office_base.specs.declared.records.ContractRow.{ContractRow}
-use Rattle.office_base.specs.Transitions.{with_next_release, has_all_releases, security_returned, is_held_security, securities_returned, settled_performance, put_if}
-use Rattle.office_base.specs.Parents.{notice_of_contract}
-use Rattle.office_base.specs.Tables.{contract_at, Tables, put_notice, put_performance, notice_at, award_at, performance_at, after_put, after_puts}
-use Rattle.office_base.specs.Limits.{release_limit}
-use Rattle.office_base.specs.declared.records.NoticeRow.{NoticeRow}
-use Rattle.office_base.specs.declared.records.SecurityRow.{SecurityRow}
-use Rattle.office_base.specs.declared.records.AwardRow.{AwardRow}
-use Rattle.office_base.specs.declared.records.PerformanceRow.{PerformanceRow}
-use Rattle.office_base.specs.declared.records.ClockRow.{ClockRow}
-use Rattle.office_base.specs.declared.puts.Put.{Put}
+use Rattle.office_machine.proofs.Names.{[], ◌≡◌, ℕ, ◌+◌, ◌≤◌, ◌<◌, Bool, true, false, List, ◌∷◌, ◌++◌, map, filter, Option, Some, None, option_map, nat_le, refl, sym, ◌∙◌, ap, subst, arith, option_and_then, nat_tests, Command, Sign, End, ContractRow, with_next_release, has_all_releases, security_returned, is_held_security, securities_returned, settled_performance, put_if, notice_of_contract, contract_at, Tables, put_notice, put_performance, notice_at, award_at, performance_at, after_put, after_puts, release_limit, NoticeRow, SecurityRow, AwardRow, PerformanceRow, ClockRow, Put, ended_state, releases_in, found_key}
 use Rattle.office_base.specs.declared.puts.Put.TheVariants as puts
 use Rattle.award_core.specs.Rules.Sign.{performance_row}
-use Rattle.award_core.specs.Rules.End.{ended_state}
-use Rattle.office_machine.specs.Counted.{releases_in}
 use Rattle.office_machine.proofs.Parents.SpokenOf.{OfContract}
 use Rattle.office_machine.proofs.Accounts.Aside.{after-append}
 use Rattle.office_machine.proofs.Commands.Footprint.{TableName, Notices, Securities, Releases, Merges, Performances, Clock, IsOn, AreOn, on-append, on-wider, on-map, on-if, is_in, leaves}
-use Rattle.office_base.proofs.RowLaws.Keyed.{found_key}
 use Rattle.office_machine.proofs.Rows.Keyed as keyed
 
 -- the tables of a command's own rows: those that it names, except notices, releases, merges, performance securities and the clock

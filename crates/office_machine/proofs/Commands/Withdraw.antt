@@ -1,24 +1,8 @@
 -- The withdrawal of a tender keeps the laws of the office.
 pub mod Fates
 pub mod Gentle
-use Rattle.std.specs.Prelude.{max}
-use Rattle.std.proofs.Common.{arith, ℕ, Bool, true, false, [], ◌∷◌, Option, None, refl, ◌≡◌, List, Some, ap, subst, sym, not, ◌||◌}
-use Rattle.office_commands.specs.declared.commands.Command.TheVariants.{Withdraw}
-use Rattle.office_base.specs.Tables.{find_envelope, Tables, envelope_at}
-use Rattle.office_base.specs.declared.records.EnvelopeRow.{EnvelopeRow}
-use Rattle.office_base.specs.Parents.{notice_of_envelope, late_of_envelope, security_of_envelope, lot_of_envelope}
-use Rattle.office_base.specs.declared.records.SecurityRow.{SecurityRow}
-use Rattle.office_base.specs.declared.records.SecurityState.TheVariants.{Returned, Forfeited}
-use Rattle.office_base.specs.Transitions.{is_late, security_settled, put_if, settled, passed_over}
-use Rattle.office_base.specs.declared.records.SecurityState.{SecurityState}
-use Rattle.office_base.specs.declared.records.LateRow.{LateRow}
-use Rattle.office_base.specs.declared.records.NoticeRow.{NoticeRow}
-use Rattle.office_base.specs.declared.records.ClockRow.{ClockRow}
+use Rattle.office_machine.proofs.Names.{max, arith, ℕ, Bool, true, false, [], ◌∷◌, Option, None, refl, ◌≡◌, List, Some, ap, subst, sym, not, ◌||◌, Withdraw, find_envelope, Tables, envelope_at, EnvelopeRow, notice_of_envelope, late_of_envelope, security_of_envelope, lot_of_envelope, SecurityRow, Returned, Forfeited, is_late, security_settled, put_if, settled, passed_over, SecurityState, LateRow, NoticeRow, ClockRow, withdraw_puts, withdraw_rows, withdraw_tests, taken_back_puts, withdraw_lacks, withdrawn, ChosenTender, Pairs, HaveParents, SecurityHas}
 use Rattle.office_base.specs.declared.puts.Put.TheVariants as puts
-use Rattle.tender_core.specs.Rules.Withdraw.{withdraw_puts, withdraw_rows, withdraw_tests, taken_back_puts, withdraw_lacks}
-use Rattle.tender_core.specs.Rules.Modify.{withdrawn}
-use Rattle.office_machine.specs.Worlds.{ChosenTender, Pairs}
-use Rattle.office_machine.specs.Parents.{HaveParents, SecurityHas}
 use Rattle.office_machine.proofs.Commands.Footprint.{Envelopes, Seals, Securities, on-if}
 use Rattle.office_machine.proofs.Worlds.WorldsPut.{TwoEnvelopes, Alike, AlikeOptions, plain-if, PutPair, Plain, receipt_is, blind-option, plain_pairs, alike-set}
 use Rattle.office_machine.proofs.Parents.NoOrphans.{has_seal}

@@ -1,19 +1,9 @@
 -- An office remains sound when rows are added.
-use Rattle.std.specs.Prelude.{◌≡◌, ℕ, ◌⊎◌, Bool, true, false, cond, List, Option, Some, None, is_some}
-use Rattle.std.proofs.Common.{refl, sym, ap, ◌∙◌, subst, inl, inr}
-use Rattle.std.specs.Ordering.{nat_cmp, is_eq, eq_by_cmp}
-use Rattle.std.specs.FinMap.{nat_cmp-IsAntisymmetric}
-use Rattle.std.specs.declared.cmp.Ordering.{Ordering}
-use Rattle.std.specs.declared.cmp.Ordering.TheVariants.{Less, Equal, Greater}
+use Rattle.office_machine.proofs.Names.{◌≡◌, ℕ, ◌⊎◌, Bool, true, false, cond, List, Option, Some, None, is_some, refl, sym, ap, ◌∙◌, subst, inl, inr, nat_cmp, is_eq, eq_by_cmp, nat_cmp-IsAntisymmetric, Ordering, Less, Equal, Greater, EnvelopeRow, SecurityRow, AwardRow, LotState, NoticeState}
 use Rattle.office_machine.proofs.Rows.Counting.{is_live}
-use Rattle.office_base.specs.declared.records.EnvelopeRow.{EnvelopeRow}
-use Rattle.office_base.specs.declared.records.SecurityRow.{SecurityRow}
 use Rattle.office_base.specs.declared.records.SecurityState.TheVariants as security
-use Rattle.office_base.specs.declared.records.AwardRow.{AwardRow}
 use Rattle.office_base.specs.declared.records.AwardState.TheVariants as award
-use Rattle.office_base.specs.declared.records.LotState.{LotState}
 use Rattle.office_base.specs.declared.records.LotState.TheVariants as lot
-use Rattle.office_base.specs.declared.records.NoticeState.{NoticeState}
 use Rattle.office_base.specs.declared.records.NoticeState.TheVariants as notice
 use Rattle.office_machine.proofs.FateLaws.Views.{View, EnvelopeFits, AwardFits, IsSound, live_lot}
 

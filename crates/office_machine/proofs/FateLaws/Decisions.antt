@@ -1,27 +1,11 @@
 -- An office remains sound after commands that decide a lot.
-use Rattle.std.specs.Prelude.{◌≡◌, ℕ, Bool, true, false, cond, ◌&&◌, List, Option, Some, None, is_some}
-use Rattle.std.proofs.Common.{refl, sym, ap, ◌∙◌, subst}
-use Rattle.std.specs.Ordering.{nat_cmp, is_eq, eq_by_cmp}
-use Rattle.office_values.specs.Ids.{id_cmp}
-use Rattle.office_base.specs.Tables.{lot_cmp}
-use Rattle.office_base.specs.States.{is_sealed, is_held, is_active, is_receiving}
-use Rattle.office_machine.specs.Fates.{has_number}
-use Rattle.office_base.specs.declared.records.EnvelopeRow.{EnvelopeRow}
-use Rattle.office_base.specs.declared.records.SecurityRow.{SecurityRow}
-use Rattle.office_base.specs.declared.records.AwardRow.{AwardRow}
+use Rattle.office_machine.proofs.Names.{◌≡◌, ℕ, Bool, true, false, cond, ◌&&◌, List, Option, Some, None, is_some, refl, sym, ap, ◌∙◌, subst, nat_cmp, is_eq, eq_by_cmp, id_cmp, lot_cmp, is_sealed, is_held, is_active, is_receiving, has_number, EnvelopeRow, SecurityRow, AwardRow, LotState, NoticeState, returned, settled, passed_over, failed_award, cancelled_award, returned_envelope, lots_total, same_key, lots_exact, ids_exact, equal_keys}
 use Rattle.office_base.specs.declared.records.EnvelopeState.TheVariants as envelope
 use Rattle.office_base.specs.declared.records.SecurityState.TheVariants as security
 use Rattle.office_base.specs.declared.records.AwardState.TheVariants as award
-use Rattle.office_base.specs.declared.records.LotState.{LotState}
 use Rattle.office_base.specs.declared.records.LotState.TheVariants as lot
-use Rattle.office_base.specs.declared.records.NoticeState.{NoticeState}
 use Rattle.office_base.specs.declared.records.NoticeState.TheVariants as notice
-use Rattle.office_base.specs.Transitions.{returned, settled, passed_over}
-use Rattle.award_core.specs.Rules.Fail.{failed_award}
-use Rattle.tender_core.specs.Rules.Cancel.{cancelled_award, returned_envelope}
 use Rattle.office_machine.proofs.Rows.Counting.{is_live}
-use Rattle.office_base.proofs.Orders.{lots_total, same_key}
-use Rattle.office_base.proofs.ExactKeys.{lots_exact, ids_exact, equal_keys}
 use Rattle.office_machine.proofs.FateLaws.Views.{View, EnvelopeFits, AwardFits, IsSound, Change, IsFair}
 use Rattle.office_machine.proofs.FateLaws.Matched.{same_itself}
 use Rattle.office_machine.proofs.FateLaws.Steps.{choose, cond_keeps, both_true, settled_held}

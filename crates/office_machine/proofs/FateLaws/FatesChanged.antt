@@ -1,25 +1,7 @@
 -- A command that changes rows in place and takes no tender in.
-use Rattle.std.specs.Prelude.{◌≡◌, ℕ, true, false, cond, not, List, ◌∷◌, Option, Some, None, option_map, is_some}
-use Rattle.std.proofs.Common.{refl, sym, ap, ◌∙◌, subst, arith}
-use Rattle.std.proofs.lemmas.Bool.Decides.{nat_tests}
-use Rattle.std.specs.Cmp.{nat_cmp_total}
-use Rattle.std.specs.FinMap.{nat_cmp-IsAntisymmetric}
-use Rattle.office_commands.specs.declared.tender.NamedSecurity.{NamedSecurity}
-use Rattle.office_base.specs.Rows.{holds_of}
-use Rattle.office_base.specs.declared.records.NoticeRow.{NoticeRow}
-use Rattle.office_base.specs.declared.records.EnvelopeRow.{EnvelopeRow}
-use Rattle.office_base.specs.declared.records.SecurityRow.{SecurityRow}
+use Rattle.office_machine.proofs.Names.{◌≡◌, ℕ, true, false, cond, not, List, ◌∷◌, Option, Some, None, option_map, is_some, refl, sym, ap, ◌∙◌, subst, arith, nat_tests, nat_cmp_total, nat_cmp-IsAntisymmetric, NamedSecurity, holds_of, NoticeRow, EnvelopeRow, SecurityRow, EnvelopeState, LotState, is_sealed, is_held, is_past_deadline, Tables, security_key, envelope_at, seal_at, security_at, notice_at, find_security, put_security, Given, Readings, Reception, received_by, received_at, tender_decided, fate_of_tender, security_decided, fate_of_security, is_kept, has_number, is_before_deadline, is_effective, EnvelopeIs, SecurityIs, found_key}
 use Rattle.office_base.specs.declared.records.EnvelopeState.TheVariants as envelope
-use Rattle.office_base.specs.declared.records.EnvelopeState.{EnvelopeState}
-use Rattle.office_base.specs.declared.records.LotState.{LotState}
-use Rattle.office_base.specs.States.{is_sealed, is_held}
-use Rattle.office_base.specs.Transitions.{is_past_deadline}
-use Rattle.office_base.specs.Tables.{Tables, security_key, envelope_at, seal_at, security_at, notice_at, find_security, put_security}
-use Rattle.office_machine.specs.Machine.{Given}
-use Rattle.office_machine.specs.Readings.{Readings}
-use Rattle.office_machine.specs.Fates.{Reception, received_by, received_at, tender_decided, fate_of_tender, security_decided, fate_of_security, is_kept, has_number, is_before_deadline, is_effective, EnvelopeIs, SecurityIs}
 use Rattle.office_machine.proofs.Rows.RowsChanged.{row_at-changed_put}
-use Rattle.office_base.proofs.RowLaws.Keyed.{found_key}
 use Rattle.office_machine.proofs.Rows.Counting.{is_live}
 use Rattle.office_machine.proofs.FateLaws.Views.{View, IsSound, EnvelopeFits, Change, IsFair, after_change, sound_changed}
 use Rattle.office_machine.proofs.FateLaws.Matched.{EnvelopeKeeps, SecurityKeeps, EnvelopesMatch}

@@ -1,24 +1,7 @@
 -- The facts about fates that are true of every reached office, and how commands keep them.
-use Rattle.std.specs.Prelude.{◌≡◌, ℕ, ◌+◌, Bool, true, false, cond, List, ◌∷◌, Option, Some, None, option_map, max}
-use Rattle.std.proofs.Common.{refl, sym, ap, ◌∙◌, subst}
-use Rattle.office_commands.specs.declared.tender.NamedSecurity.{NamedSecurity}
-use Rattle.office_commands.specs.declared.command.Caller.{Caller}
-use Rattle.office_commands.specs.declared.commands.Command.{Command}
-use Rattle.office_base.specs.declared.records.EnvelopeRow.{EnvelopeRow}
-use Rattle.office_base.specs.declared.records.SealRow.{SealRow}
-use Rattle.office_base.specs.declared.records.SecurityRow.{SecurityRow}
+use Rattle.office_machine.proofs.Names.{◌≡◌, ℕ, ◌+◌, Bool, true, false, cond, List, ◌∷◌, Option, Some, None, option_map, max, refl, sym, ap, ◌∙◌, subst, NamedSecurity, Caller, Command, EnvelopeRow, SealRow, SecurityRow, EnvelopeState, SecurityState, is_sealed, is_held, first_of, IsSorted, Tables, envelope_at, seal_at, security_at, after_puts, IsCommand, HaveParents, Given, tests_for, puts_for, Readings, Reception, received_by, received_after, received_at, tender_decided, fate_after, fate_of_tender, security_received, security_decided, security_after, fate_of_security, is_kept, EnvelopeIs, SecurityIs}
 use Rattle.office_base.specs.declared.records.EnvelopeState.TheVariants as envelope
-use Rattle.office_base.specs.declared.records.EnvelopeState.{EnvelopeState}
 use Rattle.office_base.specs.declared.records.SecurityState.TheVariants as security
-use Rattle.office_base.specs.declared.records.SecurityState.{SecurityState}
-use Rattle.office_base.specs.States.{is_sealed, is_held}
-use Rattle.office_base.specs.Rules.{first_of}
-use Rattle.office_base.specs.Tables.{IsSorted, Tables, envelope_at, seal_at, security_at, after_puts}
-use Rattle.office_commands.specs.Commands.{IsCommand}
-use Rattle.office_machine.specs.Parents.{HaveParents}
-use Rattle.office_machine.specs.Machine.{Given, tests_for, puts_for}
-use Rattle.office_machine.specs.Readings.{Readings}
-use Rattle.office_machine.specs.Fates.{Reception, received_by, received_after, received_at, tender_decided, fate_after, fate_of_tender, security_received, security_decided, security_after, fate_of_security, is_kept, EnvelopeIs, SecurityIs}
 use Rattle.office_machine.proofs.FateLaws.Views.{IsSound}
 use Rattle.office_machine.proofs.FateLaws.Matched.{EnvelopesMatch, EnvelopeKeeps, envelopes_changed, SecuritiesMatch, SecurityKeeps, named_in, securities_changed}
 use Rattle.office_machine.proofs.FateLaws.Seen.{seen}

@@ -1,16 +1,5 @@
 -- Every accepted command keeps the fates, so they are right in every reached office.
-use Rattle.std.specs.Prelude.{◌≡◌, ℕ, ◌+◌, ◌≤◌, ◌<◌, ◌⊎◌, true, false, List, [], ◌∷◌, Option, Some, None, is_some}
-use Rattle.std.proofs.Common.{refl, sym, subst, inl, inr, arith}
-use Rattle.office_base.specs.Rows.{row_at}
-use Rattle.office_base.specs.declared.records.EnvelopeRow.{EnvelopeRow}
-use Rattle.office_base.specs.declared.records.SealRow.{SealRow}
-use Rattle.office_base.specs.declared.records.SecurityRow.{SecurityRow}
-use Rattle.office_base.specs.declared.records.EnvelopeState.{EnvelopeState}
-use Rattle.office_base.specs.declared.records.SecurityState.{SecurityState}
-use Rattle.office_base.specs.Tables.{Tables, no_tables, envelope_key, envelope_at, seal_at, security_at, after_puts}
-use Rattle.office_machine.specs.Machine.{Given, Means, Reaches, effect, publication_puts, publication, with_merges}
-use Rattle.office_base.specs.declared.records.CompiledRow.{CompiledRow}
-use Rattle.office_machine.specs.Fates.{Reception, received_at, fate_of_tender, fate_of_security, TenderIs, NamedIs, HasFate, TendersAreKept, SecuritiesAreKept}
+use Rattle.office_machine.proofs.Names.{◌≡◌, ℕ, ◌+◌, ◌≤◌, ◌<◌, ◌⊎◌, true, false, List, [], ◌∷◌, Option, Some, None, is_some, refl, sym, subst, inl, inr, arith, row_at, EnvelopeRow, SealRow, SecurityRow, EnvelopeState, SecurityState, Tables, no_tables, envelope_key, envelope_at, seal_at, security_at, after_puts, Given, Means, Reaches, effect, publication_puts, publication, with_merges, CompiledRow, Reception, received_at, fate_of_tender, fate_of_security, TenderIs, NamedIs, HasFate, TendersAreKept, SecuritiesAreKept}
 use Rattle.office_machine.proofs.FateLaws.Matched.{EnvelopeStands, NoneStands, SecurityStands, named_in}
 use Rattle.office_machine.proofs.FateLaws.Seen.{after-append}
 use Rattle.office_machine.proofs.FateLaws.FatesHold.{FatesStand, HaveFates}

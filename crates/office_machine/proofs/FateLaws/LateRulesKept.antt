@@ -1,25 +1,6 @@
 -- Tenders of a notice may be withdrawn late exactly if its accepted publication said so.
-use Rattle.std.specs.Prelude.{◌≡◌, ℕ, Bool, true, false, cond, ◌&&◌, ◌||◌, List, ◌∷◌, ◌++◌, map, Option, Some, None}
-use Rattle.std.proofs.Common.{refl, sym, ap, ◌∙◌, subst}
-use Rattle.office_commands.specs.declared.command.Caller.{Caller}
-use Rattle.office_commands.specs.declared.commands.Command.{Command}
-use Rattle.office_commands.specs.declared.commands.Command.TheVariants.{Publish}
-use Rattle.office_commands.specs.declared.notice.LateWithdrawal.{LateWithdrawal}
-use Rattle.office_commands.specs.declared.notice.LateWithdrawal.TheVariants.{Refused, Forfeits}
-use Rattle.office_commands.specs.declared.notice.NewNotice.{NewNotice}
-use Rattle.office_values.specs.Ids.{same_id}
-use Rattle.office_base.specs.Rows.{row_at}
-use Rattle.office_base.specs.Rules.{first_of}
-use Rattle.office_base.specs.declared.puts.Put.{Put}
-use Rattle.office_base.specs.declared.records.ClockRow.{ClockRow}
-use Rattle.office_base.specs.declared.records.LateRow.{LateRow}
-use Rattle.office_base.specs.declared.records.LineRow.{LineRow}
-use Rattle.office_base.specs.declared.records.ReleaseRow.{ReleaseRow}
-use Rattle.office_base.specs.Tables.{Tables, late_at, find_late, put_late, after_puts}
-use Rattle.office_base.proofs.ExactKeys.{equal_ids, same_id_is}
-use Rattle.tender_core.specs.Rules.Publish.{late_puts, reserving_line_put, new_lot_put, publish_parts, publish_puts, publish_rows}
-use Rattle.office_machine.specs.Late.{LateRulesAreKept, is_forfeiting, late_row, lets_late, was_let_late}
-use Rattle.office_machine.specs.Machine.{Given, Means, Reaches, command_tests, effect, publication, publication_puts, time_of}
+use Rattle.office_machine.proofs.Names.{◌≡◌, ℕ, Bool, true, false, cond, ◌&&◌, ◌||◌, List, ◌∷◌, ◌++◌, map, Option, Some, None, refl, sym, ap, ◌∙◌, subst, Caller, Command, Publish, LateWithdrawal, Forfeits, NewNotice, same_id, row_at, first_of, Put, ClockRow, LateRow, LineRow, ReleaseRow, Tables, late_at, find_late, put_late, after_puts, equal_ids, same_id_is, late_puts, reserving_line_put, new_lot_put, publish_parts, publish_puts, publish_rows, LateRulesAreKept, is_forfeiting, late_row, lets_late, was_let_late, Given, Means, Reaches, command_tests, effect, publication, publication_puts, time_of}
+use Rattle.office_commands.specs.declared.notice.LateWithdrawal.TheVariants.{Refused}
 use Rattle.office_machine.proofs.Accounts.Aside.{after-append}
 use Rattle.office_machine.proofs.Commands.Footprint.{TableName, LateRules, AreOn, leaves, on-append, on-map, touches}
 use Rattle.office_machine.proofs.Commands.Tail.{is_touched}

@@ -1,30 +1,12 @@
 -- A command that closes a lot, so that its held securities are returned.
-use Rattle.std.specs.Prelude.{◌≡◌, ℕ, Bool, true, false, cond, ◌&&◌, List, ◌∷◌, map, filter, Some, None, option_map}
-use Rattle.std.proofs.Common.{refl, sym, ap, ◌∙◌}
-use Rattle.std.specs.Cmp.{nat_cmp_total}
-use Rattle.std.specs.FinMap.{nat_cmp-IsAntisymmetric}
-use Rattle.std.specs.Ordering.{nat_cmp, eq_by_cmp}
-use Rattle.office_values.specs.Ids.{same_id}
-use Rattle.office_commands.specs.declared.tender.NamedSecurity.{NamedSecurity}
-use Rattle.office_base.specs.declared.records.SecurityRow.{SecurityRow}
-use Rattle.office_base.specs.declared.records.AwardRow.{AwardRow}
+use Rattle.office_machine.proofs.Names.{◌≡◌, ℕ, Bool, true, false, cond, ◌&&◌, List, ◌∷◌, map, filter, Some, None, option_map, refl, sym, ap, ◌∙◌, nat_cmp_total, nat_cmp-IsAntisymmetric, nat_cmp, eq_by_cmp, same_id, NamedSecurity, SecurityRow, AwardRow, SecurityState, LotState, is_held, is_sealed, is_held_security, returned, IsSorted, Tables, lot_cmp, security_key, envelope_at, seal_at, security_at, securities_of_lot, find_security, Given, Readings, Reception, received_by, received_at, is_received_for, tender_decided, security_decided, fate_of_security, SecurityIs, equal_ids, same_itself, filter_filter}
 use Rattle.office_base.specs.declared.records.EnvelopeState.TheVariants as envelope
 use Rattle.office_base.specs.declared.records.SecurityState.TheVariants as security
-use Rattle.office_base.specs.declared.records.SecurityState.{SecurityState}
 use Rattle.office_base.specs.declared.records.AwardState.TheVariants as award
 use Rattle.office_base.specs.declared.records.LotState.TheVariants as lot
-use Rattle.office_base.specs.declared.records.LotState.{LotState}
 use Rattle.office_base.specs.declared.records.NoticeState.TheVariants as notice
-use Rattle.office_base.specs.States.{is_held, is_sealed}
-use Rattle.office_base.specs.Transitions.{is_held_security, returned}
-use Rattle.office_base.specs.Tables.{IsSorted, Tables, lot_cmp, security_key, envelope_at, seal_at, security_at, securities_of_lot, find_security}
-use Rattle.office_machine.specs.Machine.{Given}
-use Rattle.office_machine.specs.Readings.{Readings}
-use Rattle.office_machine.specs.Fates.{Reception, received_by, received_at, is_received_for, tender_decided, security_decided, fate_of_security, SecurityIs}
 use Rattle.office_machine.proofs.Rows.Counting.{is_live}
-use Rattle.office_base.proofs.ExactKeys.{equal_ids, same_itself}
 use Rattle.office_machine.proofs.Rows.RowsChanged.{rows_put, changed, row_at-changed}
-use Rattle.office_base.proofs.RowLaws.Filters.{filter_filter}
 use Rattle.office_machine.proofs.FateLaws.Views.{Change, after_change}
 use Rattle.office_machine.proofs.FateLaws.Steps.{cond_keeps, both_true}
 use Rattle.office_machine.proofs.FateLaws.Decisions.{closing, fair_closing}

@@ -1,15 +1,5 @@
 -- Rows agree with the fates, and still do after a command.
-use Rattle.std.specs.Prelude.{◌≡◌, ℕ, ◌+◌, ◌≤◌, ◌<◌, ◌⊎◌, Bool, true, false, cond, List, Option, Some, None, option_map}
-use Rattle.std.proofs.Common.{refl, sym, ap, ◌∙◌, subst, inl, inr, arith}
-use Rattle.std.specs.Ordering.{nat_cmp, eq_by_cmp, is_eq}
-use Rattle.std.specs.Cmp.{nat_cmp_total, tied_itself}
-use Rattle.office_commands.specs.declared.tender.NamedSecurity.{NamedSecurity}
-use Rattle.office_machine.specs.Fates.{Reception, is_kept, EnvelopeIs, SecurityIs}
-use Rattle.office_base.specs.declared.records.EnvelopeRow.{EnvelopeRow}
-use Rattle.office_base.specs.declared.records.SealRow.{SealRow}
-use Rattle.office_base.specs.declared.records.EnvelopeState.{EnvelopeState}
-use Rattle.office_base.specs.declared.records.SecurityRow.{SecurityRow}
-use Rattle.office_base.specs.declared.records.SecurityState.{SecurityState}
+use Rattle.office_machine.proofs.Names.{◌≡◌, ℕ, ◌+◌, ◌≤◌, ◌<◌, ◌⊎◌, Bool, true, false, cond, List, Option, Some, None, option_map, refl, sym, ap, ◌∙◌, subst, inl, inr, arith, nat_cmp, eq_by_cmp, is_eq, nat_cmp_total, tied_itself, NamedSecurity, Reception, is_kept, EnvelopeIs, SecurityIs, EnvelopeRow, SealRow, EnvelopeState, SecurityRow, SecurityState}
 use Rattle.office_machine.proofs.FateLaws.Views.{before}
 use Rattle.office_machine.proofs.FateLaws.Added.{added, added_is}
 

@@ -1,15 +1,6 @@
 -- The next receipt is unused.
-use Rattle.std.specs.Prelude.{◌≡◌, ℕ, ◌+◌, ◌≤◌, Bool, true, false, cond, List, ◌∷◌, Option, Some, None, option_map}
-use Rattle.std.proofs.Common.{refl, sym, ap, ◌∙◌, subst, arith}
-use Rattle.office_base.specs.Tables.{same_number, Tables, envelope_at, seal_at, security_at}
-use Rattle.office_base.specs.declared.records.EnvelopeRow.{EnvelopeRow}
-use Rattle.office_base.specs.declared.records.SecurityRow.{SecurityRow}
-use Rattle.office_base.specs.declared.records.EnvelopeState.{EnvelopeState}
-use Rattle.office_base.specs.declared.records.SecurityState.{SecurityState}
+use Rattle.office_machine.proofs.Names.{◌≡◌, ℕ, ◌+◌, ◌≤◌, Bool, true, false, cond, List, ◌∷◌, Option, Some, None, option_map, refl, sym, ap, ◌∙◌, subst, arith, same_number, Tables, envelope_at, seal_at, security_at, EnvelopeRow, SecurityRow, EnvelopeState, SecurityState, Given, Readings, Reception, received_by, received_after, received_at, fate_after, fate_of_tender, security_received, security_decided, security_after, fate_of_security}
 use Rattle.office_base.specs.declared.records.SecurityState.TheVariants as security
-use Rattle.office_machine.specs.Machine.{Given}
-use Rattle.office_machine.specs.Readings.{Readings}
-use Rattle.office_machine.specs.Fates.{Reception, received_by, received_after, received_at, fate_after, fate_of_tender, security_received, security_decided, security_after, fate_of_security}
 use Rattle.office_machine.proofs.FateLaws.Matched.{NoneStands, SecuritiesMatch, named_in, securities_changed}
 use Rattle.office_machine.proofs.FateLaws.FatesHold.{FatesStand, security_goes, still_held, securities_keep}
 use Rattle.office_machine.proofs.FateLaws.States.{map_same}

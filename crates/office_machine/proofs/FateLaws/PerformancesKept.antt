@@ -1,42 +1,8 @@
 -- The performance securities are those that were named at accepted signings, each in the state of its fate.
-use Rattle.std.specs.Prelude.{◌≡◌, ℕ, ◌<◌, Bool, true, false, cond, not, List, [], ◌∷◌, ◌++◌, filter, Option, Some, None, is_some, IsSome, nat_lt, max, option_map, option_and_then}
-use Rattle.std.proofs.Common.{refl, sym, ap, ◌∙◌, subst, inl, inr, arith}
-use Rattle.std.proofs.lemmas.Bool.Decides.{nat_tests}
-use Rattle.std.specs.List.{AllByRecursion}
-use Rattle.std.specs.Cmp.{nat_cmp_total}
-use Rattle.std.specs.FinMap.{nat_cmp-IsAntisymmetric}
-use Rattle.std.specs.Ordering.{nat_cmp, eq_by_cmp}
-use Rattle.office_commands.specs.declared.tender.NamedSecurity.{NamedSecurity}
-use Rattle.office_commands.specs.declared.command.Caller.{Caller}
-use Rattle.office_commands.specs.declared.contract.How.{How}
+use Rattle.office_machine.proofs.Names.{◌≡◌, ℕ, ◌<◌, Bool, true, false, cond, not, List, [], ◌∷◌, ◌++◌, filter, Option, Some, None, is_some, IsSome, nat_lt, max, option_map, option_and_then, refl, sym, ap, ◌∙◌, subst, inl, inr, arith, nat_tests, AllByRecursion, nat_cmp_total, nat_cmp-IsAntisymmetric, nat_cmp, eq_by_cmp, NamedSecurity, Caller, How, Command, Sign, End, Refusal, AwardRow, NoticeRow, ContractRow, SecurityRow, PerformanceRow, SecurityState, is_held, Tables, performance_key, performance_at, contract_at, notice_at, find_contract, find_performance, put_contract, named_for, named_after, performance_named, performance_decided, performance_after, fate_of_performance, ended_fate, HasPerformance, first_of, notice_of_award, envelope_of_award, securities_of_award, put_if, performance_settled, settled_performance, is_held_security, security_returned, securities_returned, ReleaseRow, CompiledRow, award_at, entries_of_contract, after_puts, contract_row, is_missing, sign_parts, performance_put, sign_puts, tenderer_in, end_parts, ended_contract, ended_state, end_puts, isnt_active, is_active, Given, Means, Reaches, time_of, effect, publication, publication_puts, command_tests, with_merges, PerformancesHaveFates, PerformancesAreKept, HaveParents, HavePerformances, PerformancesAreThere, published_for, Put, found_key, row_at-row_put}
 use Rattle.office_commands.specs.declared.contract.How.TheVariants as hows
-use Rattle.office_commands.specs.declared.commands.Command.{Command}
-use Rattle.office_commands.specs.declared.commands.Command.TheVariants.{Sign, End}
-use Rattle.office_values.specs.declared.refusal.Refusal.{Refusal}
-use Rattle.office_base.specs.declared.records.AwardRow.{AwardRow}
-use Rattle.office_base.specs.declared.records.NoticeRow.{NoticeRow}
-use Rattle.office_base.specs.declared.records.ContractRow.{ContractRow}
-use Rattle.office_base.specs.declared.records.SecurityRow.{SecurityRow}
-use Rattle.office_base.specs.declared.records.PerformanceRow.{PerformanceRow}
-use Rattle.office_base.specs.declared.records.SecurityState.{SecurityState}
 use Rattle.office_base.specs.declared.records.SecurityState.TheVariants as security
-use Rattle.office_base.specs.States.{is_held}
-use Rattle.office_base.specs.Tables.{Tables, performance_key, performance_at, contract_at, notice_at, find_contract, find_performance, put_contract}
-use Rattle.office_machine.specs.Fates.{named_for, named_after, performance_named, performance_decided, performance_after, fate_of_performance, ended_fate, HasPerformance}
-use Rattle.office_base.specs.Rules.{first_of}
-use Rattle.office_base.specs.Parents.{notice_of_award, envelope_of_award, securities_of_award}
-use Rattle.office_base.specs.Transitions.{put_if, performance_settled, settled_performance, is_held_security, security_returned, securities_returned}
-use Rattle.office_base.specs.declared.records.ReleaseRow.{ReleaseRow}
-use Rattle.office_base.specs.declared.records.CompiledRow.{CompiledRow}
-use Rattle.office_base.specs.Tables.{award_at, entries_of_contract, after_puts}
-use Rattle.award_core.specs.Rules.Sign.{contract_row, is_missing, sign_parts, performance_put, performance_row, sign_puts, tenderer_in}
-use Rattle.award_core.specs.Rules.End.{end_parts, ended_contract, ended_state, end_puts}
-use Rattle.award_core.specs.Rules.Fail.{isnt_active}
-use Rattle.office_base.specs.States.{is_active}
-use Rattle.office_machine.specs.Machine.{Given, Means, Reaches, time_of, effect, publication, publication_puts, command_tests, with_merges}
-use Rattle.office_machine.specs.Fates.{PerformancesHaveFates, PerformancesAreKept}
-use Rattle.office_machine.specs.Parents.{HaveParents, HavePerformances, PerformancesAreThere}
-use Rattle.office_machine.specs.Publications.{published_for}
+use Rattle.award_core.specs.Rules.Sign.{performance_row}
 use Rattle.office_machine.proofs.Runs.{along}
 use Rattle.office_machine.proofs.Commands.Footprint.{TableName, Contracts, Performances, Securities, leaves, on-append, on-if, on-map, touches}
 use Rattle.office_machine.proofs.Commands.Tail.{HasTail, bond_for, is_bond, is_touched, with_performance}
@@ -50,12 +16,9 @@ use Rattle.office_machine.proofs.Parents.SpokenOf.{OfAward, OfContract, of_award
 use Rattle.office_machine.proofs.Passed.{none_holds, allowed_by, not_and, not_false, test_of, witness}
 use Rattle.office_machine.proofs.Rows.Keyed.{found}
 use Rattle.office_machine.proofs.FateLaws.Matched.{same_itself}
-use Rattle.office_base.specs.declared.puts.Put.{Put}
 use Rattle.office_machine.proofs.Untouched.{tail_of}
 use Rattle.office_machine.proofs.Rows.Keyed as keyed
 use Rattle.office_machine.proofs.Rows.RowsChanged.{row_at-changed_put}
-use Rattle.office_base.proofs.RowLaws.Keyed.{found_key}
-use Rattle.office_base.proofs.RowLaws.{row_at-row_put}
 
 -- ---- one row, in any tables
 

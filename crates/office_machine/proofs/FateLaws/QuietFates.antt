@@ -1,22 +1,7 @@
 -- Commands that touch no tender and no security.
-use Rattle.std.specs.Prelude.{◌≡◌, ℕ, List, [], ◌∷◌, ◌++◌, map, Option, Some, None, option_map}
-use Rattle.std.proofs.Common.{refl, sym, ap, ◌∙◌, subst}
-use Rattle.std.specs.List.{AllByRecursion}
-use Rattle.office_base.specs.declared.records.NoticeRow.{NoticeRow}
-use Rattle.office_base.specs.declared.records.EnvelopeRow.{EnvelopeRow}
-use Rattle.office_base.specs.declared.records.SealRow.{SealRow}
-use Rattle.office_base.specs.declared.records.SecurityRow.{SecurityRow}
-use Rattle.office_base.specs.declared.records.ContractRow.{ContractRow}
-use Rattle.office_base.specs.declared.puts.Put.{Put}
-use Rattle.office_base.specs.Tables.{Tables, notice_at, envelope_at, seal_at, security_at, find_seal, after_puts}
-use Rattle.office_base.specs.declared.records.ReleaseRow.{ReleaseRow}
-use Rattle.office_base.specs.Parents.{notice_of_contract}
+use Rattle.office_machine.proofs.Names.{◌≡◌, ℕ, List, [], ◌∷◌, ◌++◌, map, Option, Some, None, option_map, refl, sym, ap, ◌∙◌, subst, AllByRecursion, NoticeRow, EnvelopeRow, SealRow, SecurityRow, ContractRow, Put, Tables, notice_at, envelope_at, seal_at, security_at, find_seal, after_puts, ReleaseRow, notice_of_contract, Given, publication_puts, Readings, received_by, received_at, tender_decided, fate_of_tender, security_decided, fate_of_security, found_key}
 use Rattle.office_base.specs.declared.records.EnvelopeState.TheVariants as envelope
 use Rattle.office_base.specs.declared.records.SecurityState.TheVariants as security
-use Rattle.office_machine.specs.Machine.{Given, publication_puts}
-use Rattle.office_machine.specs.Readings.{Readings}
-use Rattle.office_machine.specs.Fates.{received_by, received_at, tender_decided, fate_of_tender, security_decided, fate_of_security}
-use Rattle.office_base.proofs.RowLaws.Keyed.{found_key}
 use Rattle.office_machine.proofs.FateLaws.Views.{View, IsSound}
 use Rattle.office_machine.proofs.FateLaws.Matched.{EnvelopesMatch, SecuritiesMatch}
 use Rattle.office_machine.proofs.FateLaws.Seen.{seen, notice_state, IsQuiet, quiet}

@@ -1,17 +1,6 @@
 -- The accepted commands make the rows of tenders, seals, securities and performance securities.
-use Rattle.std.specs.Prelude.{◌≡◌, ℕ, false, List, Option, Some, None, option_map}
-use Rattle.std.proofs.Common.{refl, sym, ap, ◌∙◌}
-use Rattle.office_base.proofs.RowLaws.Keyed.{found_key}
-use Rattle.office_commands.specs.declared.tender.NamedSecurity.{NamedSecurity}
-use Rattle.office_base.specs.Tables.{envelope_at, performance_at, seal_at, security_at}
-use Rattle.office_base.specs.declared.records.EnvelopeRow.{EnvelopeRow}
-use Rattle.office_base.specs.declared.records.EnvelopeState.{EnvelopeState}
-use Rattle.office_base.specs.declared.records.PerformanceRow.{PerformanceRow}
-use Rattle.office_base.specs.declared.records.SealRow.{SealRow}
-use Rattle.office_base.specs.declared.records.SecurityRow.{SecurityRow}
-use Rattle.office_base.specs.declared.records.SecurityState.{SecurityState}
-use Rattle.office_machine.specs.Fates.{HasFate, HasPerformance, NamedIs, Reception, TenderIs, fate_of_performance, fate_of_security, fate_of_tender, performance_named, received_at}
-use Rattle.office_machine.specs.Folded.{RowsAreFolded, as_received, named_row, performance_row, seal_row, security_row, tender_row}
+use Rattle.office_machine.proofs.Names.{◌≡◌, ℕ, false, List, Option, Some, None, option_map, refl, sym, ap, ◌∙◌, found_key, NamedSecurity, envelope_at, performance_at, seal_at, security_at, EnvelopeRow, EnvelopeState, PerformanceRow, SealRow, SecurityRow, SecurityState, HasFate, HasPerformance, NamedIs, Reception, TenderIs, fate_of_performance, fate_of_security, fate_of_tender, performance_named, received_at, RowsAreFolded, as_received, named_row, seal_row, tender_row}
+use Rattle.office_machine.specs.Folded.{performance_row, security_row}
 use Rattle.office_machine.proofs.FateLaws.FatesKept.{securities_kept, tenders_kept}
 use Rattle.office_machine.proofs.FateLaws.PerformancesKept.{performances_kept}
 use Rattle.office_machine.proofs.Rows.Keyed as keyed

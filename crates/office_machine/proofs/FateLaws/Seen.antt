@@ -1,29 +1,7 @@
 -- The part of the tables that the fates see, and changes that they don't see.
-use Rattle.std.specs.Prelude.{◌≡◌, ℕ, Bool, true, false, cond, ◌&&◌, ◌||◌, List, [], ◌∷◌, ◌++◌, map, filter, Option, Some, None, option_map}
-use Rattle.std.proofs.Common.{refl, sym, ap, ◌∙◌, subst}
-use Rattle.std.specs.List.{AllByRecursion}
-use Rattle.std.specs.Cmp.{nat_cmp_total}
-use Rattle.std.specs.Cmp.Lexicographic.{nat_list_cmp_total}
-use Rattle.std.specs.FinMap.{nat_cmp-IsAntisymmetric}
-use Rattle.std.specs.Ordering.{nat_cmp, eq_by_cmp}
-use Rattle.office_values.specs.Ids.{id_cmp}
-use Rattle.office_base.specs.Rows.{row_at, row_drop, IsInOrder}
-use Rattle.office_base.specs.declared.records.LineRow.{LineRow}
-use Rattle.office_base.specs.declared.records.NoticeRow.{NoticeRow}
-use Rattle.office_base.specs.declared.records.LotRow.{LotRow}
-use Rattle.office_base.specs.declared.records.EnvelopeRow.{EnvelopeRow}
-use Rattle.office_base.specs.declared.records.SealRow.{SealRow}
-use Rattle.office_base.specs.declared.records.SecurityRow.{SecurityRow}
-use Rattle.office_base.specs.declared.records.AwardRow.{AwardRow}
-use Rattle.office_base.specs.declared.records.LotState.{LotState}
-use Rattle.office_base.specs.declared.records.NoticeState.{NoticeState}
-use Rattle.office_base.specs.Tables.{Tables, lot_cmp, line_key, notice_key, lot_key, envelope_key, seal_key, security_key, award_key, find_notice, put_notice, envelope_at, security_at, award_at, lot_at, notice_at, after_put, after_puts}
+use Rattle.office_machine.proofs.Names.{◌≡◌, ℕ, Bool, true, false, cond, ◌&&◌, ◌||◌, List, [], ◌∷◌, ◌++◌, map, filter, Option, Some, None, option_map, refl, sym, ap, ◌∙◌, subst, AllByRecursion, nat_cmp_total, nat_list_cmp_total, nat_cmp-IsAntisymmetric, nat_cmp, eq_by_cmp, id_cmp, row_at, row_drop, IsInOrder, LineRow, NoticeRow, LotRow, EnvelopeRow, SealRow, SecurityRow, AwardRow, LotState, NoticeState, Tables, lot_cmp, line_key, notice_key, lot_key, envelope_key, seal_key, security_key, award_key, find_notice, put_notice, envelope_at, security_at, award_at, lot_at, notice_at, after_put, after_puts, Put, ids_exact, equal_keys, row_at-row_put, in_order-drop, row_at-row_drop}
 use Rattle.office_base.specs.declared.puts.Put.TheVariants as puts
-use Rattle.office_base.specs.declared.puts.Put.{Put}
-use Rattle.office_base.proofs.ExactKeys.{ids_exact, equal_keys}
-use Rattle.office_base.proofs.RowLaws.{row_at-row_put}
 use Rattle.office_machine.proofs.Rows.RowsChanged.{rows_put, rows_drop, some_passes}
-use Rattle.office_base.proofs.RowLaws.Drops.{in_order-drop, row_at-row_drop}
 use Rattle.office_machine.proofs.FateLaws.Views.{View}
 use Rattle.office_machine.proofs.Rows.Keyed as keyed
 

@@ -1,27 +1,11 @@
 -- The states of lots and notices after rows are put in another form.
-use Rattle.std.specs.Prelude.{◌≡◌, ℕ, Bool, true, false, cond, not, List, [], ◌∷◌, map, Option, Some, None, option_map}
-use Rattle.std.proofs.Common.{refl, ap, ◌∙◌}
-use Rattle.std.specs.Cmp.Lexicographic.{nat_list_cmp_total, texts_ties}
-use Rattle.std.specs.Ordering.{eq_by_cmp}
-use Rattle.office_values.specs.Ids.{id_cmp, same_id}
-use Rattle.office_base.specs.declared.records.NoticeRow.{NoticeRow}
-use Rattle.office_base.specs.declared.records.LotRow.{LotRow}
+use Rattle.office_machine.proofs.Names.{◌≡◌, ℕ, Bool, true, false, cond, not, List, [], ◌∷◌, map, Option, Some, None, option_map, refl, ap, ◌∙◌, nat_list_cmp_total, texts_ties, eq_by_cmp, id_cmp, same_id, NoticeRow, LotRow, EnvelopeState, SecurityState, AwardState, LotState, NoticeState, is_sealed, is_held, is_active, is_undecided, is_opened, is_cancelled, lot_cmp, notice_key, lot_key, find_notice, put_notice, find_lot, put_lot, lots_total, ids_exact, lots_exact, found_key}
 use Rattle.office_base.specs.declared.records.EnvelopeState.TheVariants as envelope
-use Rattle.office_base.specs.declared.records.EnvelopeState.{EnvelopeState}
 use Rattle.office_base.specs.declared.records.SecurityState.TheVariants as security
-use Rattle.office_base.specs.declared.records.SecurityState.{SecurityState}
 use Rattle.office_base.specs.declared.records.AwardState.TheVariants as award
-use Rattle.office_base.specs.declared.records.AwardState.{AwardState}
 use Rattle.office_base.specs.declared.records.LotState.TheVariants as lot
-use Rattle.office_base.specs.declared.records.LotState.{LotState}
 use Rattle.office_base.specs.declared.records.NoticeState.TheVariants as notice
-use Rattle.office_base.specs.declared.records.NoticeState.{NoticeState}
-use Rattle.office_base.specs.States.{is_sealed, is_held, is_active, is_undecided, is_opened, is_cancelled}
-use Rattle.office_base.specs.Tables.{lot_cmp, notice_key, lot_key, find_notice, put_notice, find_lot, put_lot}
-use Rattle.office_base.proofs.Orders.{lots_total}
-use Rattle.office_base.proofs.ExactKeys.{ids_exact, lots_exact}
 use Rattle.office_machine.proofs.Rows.RowsChanged.{row_at-changed_put}
-use Rattle.office_base.proofs.RowLaws.Keyed.{found_key}
 use Rattle.office_machine.proofs.FateLaws.Seen.{lot_state, notice_state}
 use Rattle.office_machine.proofs.Rows.Keyed as keyed
 

@@ -1,17 +1,7 @@
 -- An office remains sound after commands that change rows in place.
-use Rattle.std.specs.Prelude.{◌≡◌, ℕ, Bool, true, false, cond, ◌&&◌, List, Option, Some, None}
-use Rattle.std.proofs.Common.{refl, sym, ap, ◌∙◌}
-use Rattle.std.specs.Ordering.{nat_cmp, eq_by_cmp}
-use Rattle.office_base.specs.declared.records.SecurityState.{SecurityState}
-use Rattle.office_base.specs.States.{is_held}
-use Rattle.office_base.specs.Transitions.{settled}
-use Rattle.tender_core.specs.Rules.Modify.{withdrawn}
-use Rattle.office_machine.specs.Fates.{has_number}
-use Rattle.office_base.specs.declared.records.EnvelopeRow.{EnvelopeRow}
+use Rattle.office_machine.proofs.Names.{◌≡◌, ℕ, Bool, true, false, cond, ◌&&◌, List, Option, Some, None, refl, sym, ap, ◌∙◌, nat_cmp, eq_by_cmp, SecurityState, is_held, settled, withdrawn, has_number, EnvelopeRow, SecurityRow, NoticeState}
 use Rattle.office_base.specs.declared.records.EnvelopeState.TheVariants as envelope
-use Rattle.office_base.specs.declared.records.SecurityRow.{SecurityRow}
 use Rattle.office_base.specs.declared.records.SecurityState.TheVariants as security
-use Rattle.office_base.specs.declared.records.NoticeState.{NoticeState}
 use Rattle.office_base.specs.declared.records.NoticeState.TheVariants as notice
 use Rattle.office_machine.proofs.FateLaws.Views.{View, Change, IsFair}
 use Rattle.office_machine.proofs.FateLaws.Added.{equal_numbers}

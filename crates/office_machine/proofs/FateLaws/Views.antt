@@ -1,16 +1,10 @@
 -- The part of an office that the fates look at: rows by their keys, and the states of lots and notices.
-use Rattle.std.specs.Prelude.{◌≡◌, ℕ, true, List, Option, Some, None, is_some, option_map}
-use Rattle.std.proofs.Common.{refl, sym, ap, ◌∙◌, subst}
+use Rattle.office_machine.proofs.Names.{◌≡◌, ℕ, true, List, Option, Some, None, is_some, option_map, refl, sym, ap, ◌∙◌, subst, EnvelopeRow, SecurityRow, AwardRow, LotState, NoticeState}
 use Rattle.office_machine.proofs.Rows.Counting.{is_live}
-use Rattle.office_base.specs.declared.records.EnvelopeRow.{EnvelopeRow}
 use Rattle.office_base.specs.declared.records.EnvelopeState.TheVariants as envelope
-use Rattle.office_base.specs.declared.records.SecurityRow.{SecurityRow}
 use Rattle.office_base.specs.declared.records.SecurityState.TheVariants as security
-use Rattle.office_base.specs.declared.records.AwardRow.{AwardRow}
 use Rattle.office_base.specs.declared.records.AwardState.TheVariants as award
-use Rattle.office_base.specs.declared.records.LotState.{LotState}
 use Rattle.office_base.specs.declared.records.LotState.TheVariants as lot
-use Rattle.office_base.specs.declared.records.NoticeState.{NoticeState}
 use Rattle.office_base.specs.declared.records.NoticeState.TheVariants as notice
 
 pub record View : Type 0 where

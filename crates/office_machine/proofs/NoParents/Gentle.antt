@@ -1,33 +1,7 @@
 -- Over any tables, a row without a parent has none after puts that make no missing parent.
-use Rattle.std.specs.Prelude.{max, ℕ, Bool, true, false, cond, not, ◌&&◌, ◌≡◌, List, [], ◌∷◌, ◌++◌, Option, Some, None, is_some, map}
-use Rattle.std.proofs.Common.{refl, sym, ◌∙◌, ap, subst, inl, inr}
-use Rattle.std.specs.List.{AllByRecursion}
-use Rattle.std.specs.declared.cmp.Ordering.{Ordering}
-use Rattle.std.specs.Ordering.{eq_by_cmp}
-use Rattle.office_commands.specs.declared.command.Caller.{Caller}
-use Rattle.office_commands.specs.declared.commands.Command.{Command}
-use Rattle.office_base.specs.Rules.{first_of}
-use Rattle.office_base.specs.Rows.{row_at, row_put, holds_of}
-use Rattle.office_base.specs.Tables.{Tables, IsSorted, after_put, after_puts, award_at, contract_at, entry_at, envelope_at, lot_at, performance_at, seal_at, security_at}
-use Rattle.office_base.specs.declared.puts.Put.{Put}
+use Rattle.office_machine.proofs.Names.{max, ℕ, Bool, true, false, cond, not, ◌&&◌, ◌≡◌, List, [], ◌∷◌, ◌++◌, Option, Some, None, is_some, map, refl, sym, ◌∙◌, ap, subst, inl, inr, AllByRecursion, Ordering, eq_by_cmp, Caller, Command, first_of, row_at, row_put, holds_of, Tables, IsSorted, after_put, after_puts, award_at, contract_at, entry_at, envelope_at, lot_at, performance_at, seal_at, security_at, Put, AwardRow, ContractRow, EntryRow, EnvelopeRow, LotRow, PerformanceRow, SealRow, SecurityRow, equal_keys, sorted-puts, row_at-row_drop, IsKeyed, rule_of, tests_for, puts_for, Readings, Parent, OfLine, OfNotice, OfLot, OfReceipt, OfAward, is_named, is_there, LotsAgree, EnvelopesAgree, SecuritiesAgree, AwardsAgree, ContractsAgree, PerformancesAgree, OwnersStay}
 use Rattle.office_base.specs.declared.puts.Put.TheVariants as puts
-use Rattle.office_base.specs.declared.records.AwardRow.{AwardRow}
-use Rattle.office_base.specs.declared.records.ContractRow.{ContractRow}
-use Rattle.office_base.specs.declared.records.EntryRow.{EntryRow}
-use Rattle.office_base.specs.declared.records.EnvelopeRow.{EnvelopeRow}
-use Rattle.office_base.specs.declared.records.LotRow.{LotRow}
-use Rattle.office_base.specs.declared.records.PerformanceRow.{PerformanceRow}
-use Rattle.office_base.specs.declared.records.SealRow.{SealRow}
-use Rattle.office_base.specs.declared.records.SecurityRow.{SecurityRow}
-use Rattle.office_base.proofs.ExactKeys.{equal_keys}
-use Rattle.office_base.proofs.SortedTables.{sorted-puts}
-use Rattle.office_base.proofs.RowLaws.Drops.{row_at-row_drop}
-use Rattle.office_base.proofs.RowLaws.Keyed.{IsKeyed}
-use Rattle.office_machine.specs.Commands.{rule_of}
-use Rattle.office_machine.specs.Machine.{tests_for, puts_for}
-use Rattle.office_machine.specs.Readings.{Readings}
-use Rattle.office_machine.specs.References.{Parent, OfLine, OfNotice, OfLot, OfReceipt, OfAward, OfContract, is_named, is_there}
-use Rattle.office_machine.specs.NoParents.{LotsAgree, EnvelopesAgree, SecuritiesAgree, AwardsAgree, ContractsAgree, PerformancesAgree, OwnersStay}
+use Rattle.office_machine.specs.References.{OfContract}
 use Rattle.office_machine.proofs.Rows.Keyed.{elsewhere, found}
 use Rattle.office_machine.proofs.Rows.Keyed as keyed
 

@@ -1,28 +1,7 @@
 -- Over any tables, a put of a row that exists makes no parent, and keeps the owner of the row if it names the same.
-use Rattle.std.specs.Prelude.{ℕ, Bool, true, false, cond, not, ◌&&◌, ◌≡◌, List, [], ◌∷◌, Option, Some, None, is_some, filter, option_and_then}
-use Rattle.std.proofs.Common.{refl, sym, ◌∙◌, ap, subst}
-use Rattle.std.specs.List.{AllByRecursion}
-use Rattle.std.specs.declared.cmp.Ordering.{Ordering}
-use Rattle.office_base.proofs.RowLaws.Keyed.{IsKeyed, found_key}
-use Rattle.office_base.specs.States.{is_held}
-use Rattle.office_base.specs.Parents.{security_of_envelope, line_of_lot}
-use Rattle.office_base.specs.Rows.{row_at}
-use Rattle.office_base.specs.Tables.{Tables, IsSorted, award_at, contract_at, envelope_at, line_at, lot_at, notice_at, performance_at, security_at, securities_of_lot}
-use Rattle.office_base.specs.Transitions.{put_if, securities_returned, security_returned, security_settled, is_held_security}
+use Rattle.office_machine.proofs.Names.{ℕ, Bool, true, false, cond, not, ◌&&◌, ◌≡◌, List, [], ◌∷◌, Option, Some, None, is_some, filter, option_and_then, refl, sym, ◌∙◌, ap, subst, AllByRecursion, Ordering, IsKeyed, found_key, is_held, security_of_envelope, line_of_lot, row_at, Tables, IsSorted, award_at, contract_at, envelope_at, line_at, lot_at, notice_at, performance_at, security_at, securities_of_lot, put_if, securities_returned, security_returned, security_settled, is_held_security, Put, AwardRow, ContractRow, EnvelopeRow, LineRow, LotRow, NoticeRow, PerformanceRow, SecurityRow, Returned, SecurityState, LotsAgree, EnvelopesAgree, SecuritiesAgree, AwardsAgree, ContractsAgree, PerformancesAgree, OfLine, OfNotice, OfLot, OfReceipt, OfAward, is_named, is_there}
 use Rattle.office_base.specs.declared.puts.Put.TheVariants as puts
-use Rattle.office_base.specs.declared.puts.Put.{Put}
-use Rattle.office_base.specs.declared.records.AwardRow.{AwardRow}
-use Rattle.office_base.specs.declared.records.ContractRow.{ContractRow}
-use Rattle.office_base.specs.declared.records.EnvelopeRow.{EnvelopeRow}
-use Rattle.office_base.specs.declared.records.LineRow.{LineRow}
-use Rattle.office_base.specs.declared.records.LotRow.{LotRow}
-use Rattle.office_base.specs.declared.records.NoticeRow.{NoticeRow}
-use Rattle.office_base.specs.declared.records.PerformanceRow.{PerformanceRow}
-use Rattle.office_base.specs.declared.records.SecurityRow.{SecurityRow}
-use Rattle.office_base.specs.declared.records.SecurityState.TheVariants.{Returned}
-use Rattle.office_base.specs.declared.records.SecurityState.{SecurityState}
-use Rattle.office_machine.specs.NoParents.{LotsAgree, EnvelopesAgree, SecuritiesAgree, AwardsAgree, ContractsAgree, PerformancesAgree}
-use Rattle.office_machine.specs.References.{OfLine, OfNotice, OfLot, OfReceipt, OfAward, OfContract, is_named, is_there}
+use Rattle.office_machine.specs.References.{OfContract}
 use Rattle.office_machine.proofs.NoParents.Gentle.{AreGentle, IsGentle, gentle-map}
 use Rattle.office_machine.proofs.Rows.Keyed.{all_found}
 use Rattle.office_machine.proofs.Rows.Keyed as keyed

@@ -1,22 +1,6 @@
 -- If each row that others name exists, each row has its parents, but for those that no key finds.
-use Rattle.std.specs.Prelude.{Bool, true, false, ◌&&◌, ◌||◌, ◌≡◌, List, Some, is_some, filter}
-use Rattle.std.proofs.Common.{refl, sym, ◌∙◌, ap}
-use Rattle.std.specs.Cmp.{nat_cmp_total}
-use Rattle.std.specs.declared.cmp.Ordering.{Ordering}
-use Rattle.office_values.specs.Ids.{same_id}
-use Rattle.office_base.specs.Rows.{row_at}
-use Rattle.office_base.specs.Tables.{same_number, of_notice, of_line, late_at, compiled_at, performance_at}
-use Rattle.office_base.specs.declared.records.AwardRow.{AwardRow}
-use Rattle.office_base.specs.declared.records.ContractRow.{ContractRow}
-use Rattle.office_base.specs.declared.records.EntryRow.{EntryRow}
-use Rattle.office_base.specs.declared.records.EnvelopeRow.{EnvelopeRow}
-use Rattle.office_base.specs.declared.records.ReleaseRow.{ReleaseRow}
-use Rattle.office_base.specs.declared.records.SecurityRow.{SecurityRow}
-use Rattle.office_base.proofs.ExactKeys.{same_itself}
-use Rattle.office_base.proofs.RowLaws.Found.{of_found}
-use Rattle.office_base.proofs.RowLaws.Keyed.{IsKeyed, found_key, own_key}
-use Rattle.office_machine.specs.NoParents.{NoKindIsForgotten}
-use Rattle.office_machine.specs.References.{OfLine, OfNotice, OfLot, OfContract, has_rows}
+use Rattle.office_machine.proofs.Names.{Bool, true, false, ◌&&◌, ◌||◌, ◌≡◌, List, Some, is_some, filter, refl, sym, ◌∙◌, ap, nat_cmp_total, Ordering, same_id, row_at, same_number, of_notice, of_line, late_at, compiled_at, performance_at, AwardRow, ContractRow, EntryRow, EnvelopeRow, ReleaseRow, SecurityRow, same_itself, of_found, IsKeyed, found_key, own_key, NoKindIsForgotten, OfLine, OfNotice, OfLot, has_rows}
+use Rattle.office_machine.specs.References.{OfContract}
 use Rattle.office_machine.proofs.NoParents.New.{none_of}
 use Rattle.office_machine.proofs.Rows.Keyed as keyed
 

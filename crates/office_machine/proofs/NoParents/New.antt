@@ -1,23 +1,6 @@
 -- Over any tables, a put of a row that none names makes no parent, and replaces none.
-use Rattle.std.specs.Prelude.{ℕ, ◌+◌, Bool, true, false, cond, not, ◌&&◌, ◌≡◌, List, [], ◌∷◌, Option, Some, is_some, filter, length, nat_eq}
-use Rattle.std.proofs.Common.{refl, sym, ◌∙◌, ap, arith}
-use Rattle.std.proofs.lemmas.Bool.Decides.{nat_tests}
-use Rattle.std.specs.List.{AllByRecursion, list_any}
-use Rattle.std.specs.Cmp.{nat_cmp_total}
-use Rattle.office_values.specs.Ids.{same_id}
-use Rattle.office_commands.specs.declared.command.Caller.{Caller}
-use Rattle.office_commands.specs.declared.tender.NamedSecurity.{NamedSecurity}
-use Rattle.office_base.proofs.ExactKeys.{same_itself}
-use Rattle.office_base.proofs.RowLaws.Found.{of_found}
-use Rattle.office_base.proofs.RowLaws.Keyed.{found_key, own_key}
-use Rattle.office_base.specs.Tables.{Tables, entry_at, envelope_at, seal_at, security_at, entries_of_contract, entry_cmp, entry_key, same_number}
+use Rattle.office_machine.proofs.Names.{ℕ, ◌+◌, Bool, true, false, cond, not, ◌&&◌, ◌≡◌, List, [], ◌∷◌, Option, Some, is_some, filter, length, nat_eq, refl, sym, ◌∙◌, ap, arith, nat_tests, AllByRecursion, list_any, nat_cmp_total, same_id, Caller, NamedSecurity, same_itself, of_found, found_key, own_key, Tables, entry_at, envelope_at, seal_at, security_at, entries_of_contract, entry_cmp, entry_key, same_number, EntryRow, EnvelopeRow, seal_puts, security_put, is_taken, receipt_is_taken, OfReceipt, has_rows, is_named, is_there}
 use Rattle.office_base.specs.declared.puts.Put.TheVariants as puts
-use Rattle.office_base.specs.declared.records.EntryRow.{EntryRow}
-use Rattle.office_base.specs.declared.records.EnvelopeRow.{EnvelopeRow}
-use Rattle.tender_core.specs.Rules.Present.{seal_puts, security_put}
-use Rattle.award_core.specs.Rules.AmendContract.{is_taken}
-use Rattle.office_machine.specs.Orphans.{receipt_is_taken}
-use Rattle.office_machine.specs.References.{OfReceipt, has_rows, is_named, is_there}
 use Rattle.office_machine.proofs.NoParents.Gentle.{AreGentle, IsGentle}
 use Rattle.office_machine.proofs.Passed.{neither}
 use Rattle.office_machine.proofs.Rows.Keyed as keyed

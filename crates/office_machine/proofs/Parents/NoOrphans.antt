@@ -1,40 +1,7 @@
 -- In a reached office, each row has its parent, and no row has the next number.
-use Rattle.std.specs.Prelude.{◌≡◌, ℕ, ◌+◌, Bool, true, false, cond, not, ◌&&◌, ◌||◌, List, [], ◌∷◌, filter, nat_eq, Option, Some, None, IsSome, is_some}
-use Rattle.std.proofs.Common.{refl, sym, ◌∙◌, ap, arith}
-use Rattle.std.proofs.lemmas.Bool.Decides.{nat_tests}
-use Rattle.std.specs.FinMap.{nat_cmp-IsAntisymmetric}
-use Rattle.std.specs.List.{AllByRecursion, list_any}
-use Rattle.std.specs.declared.cmp.Ordering.{Ordering}
-use Rattle.office_values.specs.Ids.{same_id}
-use Rattle.office_commands.specs.declared.budget.BudgetRow.{BudgetRow}
-use Rattle.office_base.specs.Rows.{row_at, IsInOrder, holds_of}
-use Rattle.office_base.specs.Parents.{envelope_of_award, lot_of_award}
-use Rattle.office_base.specs.States.{is_read, is_sealed}
-use Rattle.office_base.specs.Tables.{IsSorted, Tables, award_at, contract_at, envelope_at, line_at, lot_at, notice_at, late_at, compiled_at, performance_at, same_number, seal_at, of_line, of_notice, awards_of_notice, contracts_of_notice, entries_of_contract, envelopes_of_notice, lots_of_line, lots_of_notice, releases_of_notice, securities_of_notice}
-use Rattle.office_base.specs.declared.records.AwardRow.{AwardRow}
-use Rattle.office_base.specs.declared.records.ContractRow.{ContractRow}
-use Rattle.office_base.specs.declared.records.EnvelopeRow.{EnvelopeRow}
+use Rattle.office_machine.proofs.Names.{◌≡◌, ℕ, ◌+◌, Bool, true, false, cond, not, ◌&&◌, ◌||◌, List, [], ◌∷◌, filter, nat_eq, Option, Some, None, IsSome, is_some, refl, sym, ◌∙◌, ap, arith, nat_tests, nat_cmp-IsAntisymmetric, AllByRecursion, list_any, Ordering, same_id, BudgetRow, row_at, IsInOrder, holds_of, envelope_of_award, lot_of_award, is_read, is_sealed, IsSorted, Tables, award_at, contract_at, envelope_at, line_at, lot_at, notice_at, late_at, compiled_at, performance_at, same_number, seal_at, of_line, of_notice, awards_of_notice, contracts_of_notice, entries_of_contract, envelopes_of_notice, lots_of_line, lots_of_notice, releases_of_notice, securities_of_notice, AwardRow, ContractRow, EnvelopeRow, EnvelopeState, EntryRow, LineRow, LotRow, SecurityRow, NoticeRow, ReleaseRow, equal_ids, equal_keys, IsKeyed, found_key, isnt_sealed, is_sealed_envelope, cant_be_taken_back, isnt_active, lacks_tender, is_kept, Given, award_is_taken, contract_is_taken, has_rows_of_notice, is_torn, lacks_its_security, lacks_seal, names_lost_line, receipt_is_taken, reserves_another, has_rows, is_named, HaveParents, has_seal_and_lot}
 use Rattle.office_base.specs.declared.records.EnvelopeState.TheVariants as states
-use Rattle.office_base.specs.declared.records.EnvelopeState.{EnvelopeState}
-use Rattle.office_base.specs.declared.records.EntryRow.{EntryRow}
-use Rattle.office_base.specs.declared.records.LineRow.{LineRow}
-use Rattle.office_base.specs.declared.records.LotRow.{LotRow}
-use Rattle.office_base.specs.declared.records.SecurityRow.{SecurityRow}
-use Rattle.office_base.specs.declared.records.NoticeRow.{NoticeRow}
-use Rattle.office_base.specs.declared.records.ReleaseRow.{ReleaseRow}
-use Rattle.office_base.proofs.ExactKeys.{equal_ids, equal_keys}
-use Rattle.office_base.proofs.RowLaws.Keyed.{IsKeyed, found_key}
-use Rattle.tender_core.specs.Rules.Modify.{isnt_sealed}
-use Rattle.tender_core.specs.Rules.Open.{is_sealed_envelope}
-use Rattle.tender_core.specs.Rules.Withdraw.{cant_be_taken_back}
-use Rattle.award_core.specs.Rules.Fail.{isnt_active}
-use Rattle.office_machine.specs.Commands.Open.{lacks_tender}
-use Rattle.office_machine.specs.Fates.{is_kept}
-use Rattle.office_machine.specs.Machine.{Given}
-use Rattle.office_machine.specs.Orphans.{award_is_taken, contract_is_taken, has_rows_of_notice, is_torn, lacks_its_security, lacks_seal, names_lost_line, receipt_is_taken, reserves_another}
-use Rattle.office_machine.specs.References.{OfContract, has_rows, is_named}
-use Rattle.office_machine.specs.Parents.{HaveParents}
-use Rattle.office_machine.specs.Rule.{has_seal_and_lot}
+use Rattle.office_machine.specs.References.{OfContract}
 use Rattle.office_machine.proofs.Parents.ParentsPut.{all-filter, all-table}
 use Rattle.office_machine.proofs.Parents.Whole.{IsWhole, security_there}
 use Rattle.office_machine.proofs.Passed.{neither, not_false}

@@ -1,21 +1,7 @@
 -- After puts, the rows that other rows refer to still exist.
-use Rattle.std.proofs.Common.{◌≡◌, ℕ, Bool, true, false, List, [], ◌∷◌, ◌++◌, map, filter, Option, Some, None, refl, sym, subst, inl, inr, cond}
-use Rattle.std.specs.Prelude.{IsSome}
-use Rattle.std.specs.List.{AllByRecursion}
-use Rattle.std.specs.declared.cmp.Ordering.{Ordering}
-use Rattle.office_base.specs.Rows.{row_at, row_put, IsInOrder}
-use Rattle.office_base.specs.declared.records.LotRow.{LotRow}
-use Rattle.office_base.specs.declared.records.EnvelopeRow.{EnvelopeRow}
-use Rattle.office_base.specs.declared.records.SecurityRow.{SecurityRow}
-use Rattle.office_base.specs.declared.records.AwardRow.{AwardRow}
-use Rattle.office_base.specs.declared.records.ContractRow.{ContractRow}
-use Rattle.office_base.specs.Tables.{Tables, line_at, tenderer_at, notice_at, lot_at, envelope_at, security_at, contract_at, after_put, after_puts}
-use Rattle.office_base.specs.declared.puts.Put.{Put}
+use Rattle.office_machine.proofs.Names.{◌≡◌, ℕ, Bool, true, false, List, [], ◌∷◌, ◌++◌, map, filter, Option, Some, None, refl, sym, subst, inl, inr, cond, IsSome, AllByRecursion, Ordering, row_at, row_put, IsInOrder, LotRow, EnvelopeRow, SecurityRow, AwardRow, ContractRow, Tables, line_at, tenderer_at, notice_at, lot_at, envelope_at, security_at, contract_at, after_put, after_puts, Put, put_if, LotHas, EnvelopeHas, SecurityHas, AwardHas, ContractHas, EntryHas, PerformanceHas, ReleaseHas, MergeHas, LateHas, HaveParents, IsKeyed}
 use Rattle.office_base.specs.declared.puts.Put.TheVariants as puts
-use Rattle.office_base.specs.Transitions.{put_if}
-use Rattle.office_machine.specs.Parents.{LotHas, EnvelopeHas, SecurityHas, AwardHas, ContractHas, EntryHas, PerformanceHas, ReleaseHas, MergeHas, LateHas, HaveParents}
 use Rattle.office_machine.proofs.Rows.Keyed.{found, still_there}
-use Rattle.office_base.proofs.RowLaws.Keyed.{IsKeyed}
 use Rattle.office_machine.proofs.Rows.Keyed as keyed
 
 -- every row of the one office still exists in the other

@@ -1,16 +1,5 @@
 -- In every reached office, each row that another row refers to exists.
-use Rattle.std.proofs.Common.{◌≡◌, ℕ, true, List, Option, Some, None, is_some, refl, sym, ◌∙◌, ap, subst}
-use Rattle.std.specs.Prelude.{IsSome, option_and_then, option_map}
-use Rattle.office_base.specs.Rows.{row_at}
-use Rattle.office_commands.specs.declared.command.Caller.{Caller}
-use Rattle.office_commands.specs.declared.commands.Command.{Command}
-use Rattle.office_base.specs.Tables.{Tables, IsSorted, no_tables, find_notice, notice_at, after_puts}
-use Rattle.office_base.specs.Rules.{first_of}
-use Rattle.office_base.specs.declared.records.NoticeRow.{NoticeRow}
-use Rattle.office_machine.specs.Machine.{AreOfNotices, Means, Given, IsRegistered, may_give, publication_puts, command_tests, effect, next, puts_of, publication, release_row, with_merges}
-use Rattle.office_base.specs.declared.records.CompiledRow.{CompiledRow}
-use Rattle.office_machine.specs.Parents.{HaveParents, ParentsAreThere}
-use Rattle.office_machine.specs.Publications.{published_for}
+use Rattle.office_machine.proofs.Names.{◌≡◌, ℕ, true, List, Option, Some, None, is_some, refl, sym, ◌∙◌, ap, subst, IsSome, option_and_then, option_map, row_at, Caller, Command, Tables, IsSorted, no_tables, find_notice, notice_at, after_puts, first_of, NoticeRow, AreOfNotices, Means, Given, IsRegistered, may_give, publication_puts, command_tests, effect, next, puts_of, publication, release_row, with_merges, CompiledRow, HaveParents, ParentsAreThere, published_for}
 use Rattle.office_machine.proofs.Accounts.Aside.{after-append}
 use Rattle.office_machine.proofs.Parents.ParentsPut.{Grows, grows-puts, AllParents, parents_after, parents-append}
 use Rattle.office_machine.proofs.Commands.{lawful}

@@ -1,12 +1,5 @@
 -- After a command, an earlier contract still has the performance security that its notice asks for.
-use Rattle.std.specs.Prelude.{◌≡◌, ℕ, ◌<◌, List, Option, Some, None, IsSome}
-use Rattle.std.proofs.Common.{sym, ap, ◌∙◌, subst, inl, inr, arith}
-use Rattle.office_base.specs.declared.puts.Put.{Put}
-use Rattle.office_base.specs.declared.records.NoticeRow.{NoticeRow}
-use Rattle.office_base.specs.declared.records.ContractRow.{ContractRow}
-use Rattle.office_base.specs.declared.records.PerformanceRow.{PerformanceRow}
-use Rattle.office_base.specs.Tables.{Tables, find_notice, find_performance, notice_at, contract_at, performance_at, after_puts}
-use Rattle.office_machine.specs.Parents.{HaveParents, HavePerformances}
+use Rattle.office_machine.proofs.Names.{◌≡◌, ℕ, ◌<◌, List, Option, Some, None, IsSome, sym, ap, ◌∙◌, subst, inl, inr, arith, Put, NoticeRow, ContractRow, PerformanceRow, Tables, find_notice, find_performance, notice_at, contract_at, performance_at, after_puts, HaveParents, HavePerformances}
 use Rattle.office_machine.proofs.Commands.Footprint.{TableName}
 use Rattle.office_machine.proofs.Commands.Tail.{AsksAsBefore, CountsNext, HasTail, with_notice, with_performance}
 use Rattle.office_machine.proofs.Passed.{witness}

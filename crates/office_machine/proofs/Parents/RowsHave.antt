@@ -1,20 +1,6 @@
 -- For the rows of an office, the rows that they refer to exist in any tables that have all rows of the office.
-use Rattle.std.proofs.Common.{◌≡◌, ℕ, List, filter, Option, Some, None, is_some, ◌∙◌, ap}
-use Rattle.std.specs.Prelude.{IsSome, option_and_then}
-use Rattle.std.specs.List.{AllByRecursion}
-use Rattle.office_base.specs.declared.records.EnvelopeRow.{EnvelopeRow}
-use Rattle.office_base.specs.Tables.{IsSorted, Tables, security_at, contract_at, securities_of_lot}
-use Rattle.office_base.specs.declared.records.SecurityState.TheVariants.{Returned}
-use Rattle.office_base.specs.declared.records.LotRow.{LotRow}
-use Rattle.office_base.specs.declared.records.SecurityRow.{SecurityRow}
-use Rattle.office_base.specs.declared.records.AwardRow.{AwardRow}
-use Rattle.office_base.specs.declared.records.ContractRow.{ContractRow}
-use Rattle.office_base.specs.declared.puts.Put.{Put}
-use Rattle.office_base.specs.Transitions.{security_returned, securities_returned, is_held_security}
-use Rattle.office_base.specs.Parents.{security_of_envelope, lot_of_award}
-use Rattle.office_machine.specs.Parents.{HaveParents, LotHas, SecurityHas}
+use Rattle.office_machine.proofs.Names.{◌≡◌, ℕ, List, filter, Option, Some, None, is_some, ◌∙◌, ap, IsSome, option_and_then, AllByRecursion, EnvelopeRow, IsSorted, Tables, security_at, contract_at, securities_of_lot, Returned, LotRow, SecurityRow, AwardRow, ContractRow, Put, security_returned, securities_returned, is_held_security, security_of_envelope, lot_of_award, HaveParents, LotHas, SecurityHas, found_key}
 use Rattle.office_machine.proofs.Parents.ParentsPut.{Grows, Parents, AllParents, lot_still, security_still, parents-all, all-filter, all-table}
-use Rattle.office_base.proofs.RowLaws.Keyed.{found_key}
 use Rattle.office_machine.proofs.Rows.Keyed as keyed
 
 module _ (s u : Tables) (have : HaveParents s s) (g : Grows s u) where

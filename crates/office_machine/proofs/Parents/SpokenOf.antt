@@ -1,14 +1,5 @@
 -- An award and a contract, with the rows that they refer to.
-use Rattle.std.specs.Prelude.{◌≡◌, ℕ, true, Some, is_some}
-use Rattle.std.proofs.Common.{◌∙◌, ap}
-use Rattle.office_base.specs.declared.records.LineRow.{LineRow}
-use Rattle.office_base.specs.declared.records.NoticeRow.{NoticeRow}
-use Rattle.office_base.specs.declared.records.LotRow.{LotRow}
-use Rattle.office_base.specs.declared.records.AwardRow.{AwardRow}
-use Rattle.office_base.specs.declared.records.ContractRow.{ContractRow}
-use Rattle.office_base.specs.Tables.{Tables, notice_at, lot_at, line_at, award_at, contract_at}
-use Rattle.office_base.specs.Parents.{notice_of_award, lot_of_award, notice_of_contract, lot_of_contract, line_of_lot}
-use Rattle.office_machine.specs.Parents.{HaveParents}
+use Rattle.office_machine.proofs.Names.{◌≡◌, ℕ, true, Some, is_some, ◌∙◌, ap, LineRow, NoticeRow, LotRow, AwardRow, ContractRow, Tables, notice_at, lot_at, line_at, award_at, contract_at, notice_of_award, lot_of_award, notice_of_contract, lot_of_contract, line_of_lot, HaveParents}
 use Rattle.office_machine.proofs.Passed.{witness}
 
 -- an award, and the rows that it refers to

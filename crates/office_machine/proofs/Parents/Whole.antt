@@ -1,20 +1,5 @@
 -- In a reached office, the rows that its rows refer to exist, and no more went from a contract than came.
-use Rattle.std.specs.Prelude.{◌≡◌, ℕ, ◌+◌, ◌≤◌, ◌<◌, true, false, not, ◌&&◌, List, filter, Option, Some, None, IsSome, is_some, nat_lt, option_and_then}
-use Rattle.std.proofs.Common.{refl, ap, subst, arith}
-use Rattle.std.proofs.lemmas.Bool.Decides.{nat_tests}
-use Rattle.office_base.specs.EntryKinds.{is_raise, is_less}
-use Rattle.office_base.specs.Joined.{is_overdrawn, minus, plus}
-use Rattle.office_base.specs.Parents.{line_of_lot, security_of_envelope}
-use Rattle.office_base.specs.Transitions.{lacks_security}
-use Rattle.office_base.specs.Tables.{IsSorted, Tables, contract_at, entries_of_contract, envelope_at, lot_at, same_number, seal_at, security_at}
-use Rattle.office_base.specs.declared.records.ContractRow.{ContractRow}
-use Rattle.office_base.specs.declared.records.EntryRow.{EntryRow}
-use Rattle.office_base.specs.declared.records.EnvelopeRow.{EnvelopeRow}
-use Rattle.office_base.specs.declared.records.LotRow.{LotRow}
-use Rattle.office_base.proofs.RowLaws.Keyed.{found_key}
-use Rattle.office_machine.specs.Fates.{is_kept}
-use Rattle.office_machine.specs.Machine.{Given}
-use Rattle.office_machine.specs.Parents.{EnvelopeHas, HaveParents, HavePerformances}
+use Rattle.office_machine.proofs.Names.{◌≡◌, ℕ, ◌+◌, ◌≤◌, ◌<◌, true, false, not, ◌&&◌, List, filter, Option, Some, None, IsSome, is_some, nat_lt, option_and_then, refl, ap, subst, arith, nat_tests, is_raise, is_less, is_overdrawn, minus, plus, line_of_lot, security_of_envelope, lacks_security, IsSorted, Tables, contract_at, entries_of_contract, envelope_at, lot_at, same_number, seal_at, security_at, ContractRow, EntryRow, EnvelopeRow, LotRow, found_key, is_kept, Given, EnvelopeHas, HaveParents, HavePerformances}
 use Rattle.office_machine.proofs.Accounts.Joins.{entry_sum-own}
 use Rattle.office_machine.proofs.Accounts.Kept.{AccountsStand}
 use Rattle.office_machine.proofs.Rows.Keyed as keyed

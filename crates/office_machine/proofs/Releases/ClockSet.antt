@@ -1,9 +1,5 @@
 -- The clock has the moment of the last accepted command.
-use Rattle.std.proofs.Common.{◌≤◌, sym, ◌∙◌, ap, subst}
-use Rattle.std.proofs.Math.Nat.{le-max_right}
-use Rattle.office_base.specs.Tables.{Tables}
-use Rattle.office_base.specs.declared.records.ClockRow.{ClockRow}
-use Rattle.office_machine.specs.Clock.{ClockIsSet, ClockNeverRunsBack}
+use Rattle.office_machine.proofs.Names.{◌≤◌, sym, ◌∙◌, ap, subst, le-max_right, Tables, ClockRow, ClockIsSet, ClockNeverRunsBack}
 use Rattle.office_machine.proofs.Parents.ParentsThere.{parents_there}
 use Rattle.office_machine.proofs.Releases.NextIs.{next_is}
 

@@ -1,31 +1,9 @@
 -- Nothing depends on the merges that are stored beside the office.
-use Rattle.std.proofs.Common.{◌≡◌, ℕ, ◌+◌, cond, not, ◌&&◌, List, [], ◌∷◌, ◌++◌, Option, Some, None, refl, sym, ◌∙◌, ap, subst}
-use Rattle.std.specs.Prelude.{option_and_then, option_map}
-use Rattle.office_commands.specs.declared.command.Caller.{Caller}
-use Rattle.office_commands.specs.declared.commands.Command.{Command}
-use Rattle.office_commands.specs.declared.commands.Command.TheVariants.{Import, Modify, Withdraw}
-use Rattle.office_commands.specs.declared.queries.Query.{Query}
+use Rattle.office_machine.proofs.Names.{◌≡◌, ℕ, ◌+◌, cond, not, ◌&&◌, List, [], ◌∷◌, ◌++◌, Option, Some, None, refl, sym, ◌∙◌, ap, subst, option_and_then, option_map, Caller, Command, Import, Modify, Withdraw, Query, query_kind_of, may_look, Refusal, Forbidden, Put, CompiledRow, first_of, Tables, same_number, notice_at, after_put, after_puts, Reception, received_by, received_at, received_after, fate_after, fate_of_tender, is_effective, tender_decided, Given, Means, done, effect, may_give, next, publication, publication_puts, puts_of, refusal_of, release_row, time_of, with_merges, FatesReadNoMerges, LooksReadNoMerges, NextReadsNoMerges, PublishesNoMerges, PutsReadNoMerges, RefusalsReadNoMerges, RepliesReadNoMerges, ShowsNoMerges, bare, beside, published_for, Readings, Reply, reply_by, Rule, rule_of, Packages, package_told, shown}
 use Rattle.office_commands.specs.declared.queries.Query.TheVariants as queries
-use Rattle.office_commands.specs.Queries.{query_kind_of}
-use Rattle.office_commands.specs.Rights.{may_look}
-use Rattle.office_values.specs.declared.refusal.Refusal.{Refusal}
-use Rattle.office_values.specs.declared.refusal.Refusal.TheVariants.{Forbidden}
-use Rattle.office_base.specs.declared.puts.Put.{Put}
 use Rattle.office_base.specs.declared.puts.Put.TheVariants as puts
-use Rattle.office_base.specs.declared.records.CompiledRow.{CompiledRow}
 use Rattle.office_base.specs.declared.records.EnvelopeState.TheVariants as envelope_states
-use Rattle.office_base.specs.Rules.{first_of}
-use Rattle.office_base.specs.Tables.{Tables, same_number, notice_at, after_put, after_puts}
-use Rattle.office_machine.specs.Fates.{Reception, received_by, received_at, received_after, fate_after, fate_of_tender, is_effective, tender_decided}
-use Rattle.office_machine.specs.Machine.{Given, Means, done, effect, may_give, next, publication, publication_puts, puts_of, refusal_of, release_row, time_of, with_merges}
-use Rattle.office_machine.specs.MergesApart.{FatesReadNoMerges, LooksReadNoMerges, NextReadsNoMerges, PublishesNoMerges, PutsReadNoMerges, RefusalsReadNoMerges, RepliesReadNoMerges, ShowsNoMerges, bare, beside}
-use Rattle.office_machine.specs.Publications.{published_for}
-use Rattle.office_machine.specs.Readings.{Readings}
-use Rattle.office_machine.specs.Replies.{Reply, Refused}
-use Rattle.office_machine.specs.Requests.{reply_by}
-use Rattle.office_machine.specs.Rule.{Rule}
-use Rattle.office_machine.specs.Commands.{rule_of}
-use Rattle.office_machine.specs.Sights.{Packages, package_told, shown}
+use Rattle.office_machine.specs.Replies.{Refused}
 
 -- A put changes the rest of the office as it does without the merges.
 

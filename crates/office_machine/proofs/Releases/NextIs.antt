@@ -1,12 +1,5 @@
 -- The office after an accepted command: its notices, its clock, its releases and its merges.
-use Rattle.std.proofs.Common.{◌≡◌, List, Option, Some, None, refl, ◌∙◌, ap}
-use Rattle.office_base.specs.declared.records.NoticeRow.{NoticeRow}
-use Rattle.office_base.specs.declared.records.ClockRow.{ClockRow}
-use Rattle.office_base.specs.declared.records.ReleaseRow.{ReleaseRow}
-use Rattle.office_base.specs.Tables.{Tables, put_release, after_puts}
-use Rattle.office_machine.specs.Machine.{Means, Given, refusal_of, time_of, effect, next, publication, publication_puts}
-use Rattle.office_machine.specs.Parents.{HaveParents}
-use Rattle.office_machine.specs.Publications.{published_for}
+use Rattle.office_machine.proofs.Names.{◌≡◌, List, Option, Some, None, refl, ◌∙◌, ap, NoticeRow, ClockRow, ReleaseRow, Tables, put_release, after_puts, Means, Given, refusal_of, time_of, effect, next, publication, publication_puts, HaveParents, published_for}
 use Rattle.office_machine.proofs.Accounts.Aside.{after-append}
 use Rattle.office_machine.proofs.Commands.{lawful}
 use Rattle.office_machine.proofs.Commands.Footprint.{leaves, touches}

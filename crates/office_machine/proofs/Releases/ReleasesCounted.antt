@@ -1,15 +1,5 @@
 -- The releases of a notice are counted.
-use Rattle.std.proofs.Common.{◌≡◌, ℕ, ◌+◌, ◌≤◌, Bool, true, false, cond, List, [], ◌∷◌, Option, Some, None, refl, sym, ◌∙◌, ap, subst, arith}
-use Rattle.office_values.specs.Ids.{same_id}
-use Rattle.office_base.specs.Limits.{release_limit}
-use Rattle.office_base.specs.Rows.{row_at}
-use Rattle.office_base.specs.declared.records.NoticeRow.{NoticeRow}
-use Rattle.office_base.specs.Tables.{Tables, find_notice, put_notice}
-use Rattle.office_machine.specs.Machine.{Means, Given, next}
-use Rattle.office_machine.specs.Releases.{is_for, AreCounted, ReleasesAreCounted}
-use Rattle.office_machine.specs.Publications.{published_for}
-use Rattle.office_machine.specs.Counted.{releases_in}
-use Rattle.office_base.proofs.ExactKeys.{equal_ids, same_id_is}
+use Rattle.office_machine.proofs.Names.{◌≡◌, ℕ, ◌+◌, ◌≤◌, Bool, true, false, cond, List, [], ◌∷◌, Option, Some, None, refl, sym, ◌∙◌, ap, subst, arith, same_id, release_limit, row_at, NoticeRow, Tables, find_notice, put_notice, Means, Given, next, is_for, AreCounted, ReleasesAreCounted, published_for, releases_in, equal_ids, same_id_is}
 use Rattle.office_machine.proofs.Rows.Keyed.{found_put, elsewhere}
 use Rattle.office_machine.proofs.Rows.Keyed as keyed
 use Rattle.office_machine.proofs.Parents.ParentsThere.{parents_there}

@@ -1,14 +1,5 @@
 -- The moments of a notice's releases never fall.
-use Rattle.std.specs.Prelude.{◌≡◌, ℕ, ◌≤◌, Bool, true, false, cond, List, [], ◌∷◌, ◌++◌, filter, Option, Some, None, option_to_list, option_map, option_and_then}
-use Rattle.std.proofs.Common.{refl, sym, subst, arith}
-use Rattle.std.specs.List.{AllByRecursion}
-use Rattle.std.proofs.Math.Nat.{le-max_right}
-use Rattle.office_values.specs.Ids.{same_id}
-use Rattle.office_base.specs.declared.records.ReleaseRow.{ReleaseRow}
-use Rattle.office_base.specs.Tables.{Tables}
-use Rattle.office_machine.specs.Machine.{Means, Given, Reaches, time_of, publication, release_row}
-use Rattle.office_machine.specs.Publications.{published_for}
-use Rattle.office_machine.specs.Releases.{published_by, MomentsNeverFall, ReleasesAreInTime}
+use Rattle.office_machine.proofs.Names.{◌≡◌, ℕ, ◌≤◌, Bool, true, false, cond, List, [], ◌∷◌, ◌++◌, filter, Option, Some, None, option_to_list, option_map, option_and_then, refl, sym, subst, arith, AllByRecursion, le-max_right, same_id, ReleaseRow, Tables, Means, Given, Reaches, time_of, publication, release_row, published_for, published_by, MomentsNeverFall, ReleasesAreInTime}
 use Rattle.office_machine.proofs.Releases.ClockSet.{clock_set}
 use Rattle.office_machine.proofs.Releases.ReleasesMade.{releases_published}
 

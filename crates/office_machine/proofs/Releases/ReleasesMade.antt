@@ -1,22 +1,5 @@
 -- The stored releases of a notice are those that accepted commands published for it, in their sequence.
-use Rattle.std.specs.Prelude.{◌≡◌, ℕ, ◌+◌, ◌≤◌, ◌<◌, Bool, true, false, cond, List, [], ◌∷◌, ◌++◌, filter, Option, Some, None, option_to_list, option_map, option_and_then}
-use Rattle.std.proofs.Common.{refl, sym, ◌∙◌, ap, subst, arith}
-use Rattle.std.specs.List.{AllByRecursion}
-use Rattle.std.specs.Ordering.{nat_cmp, ordering_then}
-use Rattle.std.specs.declared.cmp.Ordering.{Ordering}
-use Rattle.std.specs.declared.cmp.Ordering.TheVariants.{Less, Equal, Greater}
-use Rattle.std.proofs.lemmas.Cmp.{ranked}
-use Rattle.office_values.specs.Ids.{id_cmp, same_id}
-use Rattle.office_base.specs.declared.records.ReleaseRow.{ReleaseRow}
-use Rattle.office_base.specs.Rows.{by_order, row_put, StartsAbove, IsInOrder}
-use Rattle.office_base.specs.Tables.{Tables, IsSorted, release_cmp, release_key, put_release, find_notice, releases_of_notice}
-use Rattle.office_base.proofs.ExactKeys.{equal_ids, same_itself}
-use Rattle.office_base.proofs.Orders.{same_key}
-use Rattle.office_base.proofs.RowLaws.{all-put}
-use Rattle.office_machine.specs.Machine.{Means, Given, Reaches, publication, release_row, next}
-use Rattle.office_machine.specs.Publications.{published_for}
-use Rattle.office_machine.specs.Counted.{releases_in}
-use Rattle.office_machine.specs.Releases.{is_for, published_by, ReleasesArePublished}
+use Rattle.office_machine.proofs.Names.{◌≡◌, ℕ, ◌+◌, ◌≤◌, ◌<◌, Bool, true, false, cond, List, [], ◌∷◌, ◌++◌, filter, Option, Some, None, option_to_list, option_map, option_and_then, refl, sym, ◌∙◌, ap, subst, arith, AllByRecursion, nat_cmp, ordering_then, Ordering, Less, Equal, Greater, ranked, id_cmp, same_id, ReleaseRow, by_order, row_put, StartsAbove, IsInOrder, Tables, IsSorted, release_cmp, release_key, put_release, find_notice, releases_of_notice, equal_ids, same_itself, same_key, all-put, Means, Given, Reaches, publication, release_row, next, published_for, releases_in, is_for, published_by, ReleasesArePublished}
 use Rattle.office_machine.proofs.Rows.Keyed as keyed
 use Rattle.office_machine.proofs.Rows.SortedTables.{sorted}
 use Rattle.office_machine.proofs.Parents.ParentsThere.{parents_there}

@@ -1,19 +1,6 @@
 -- The releases of a notice are numbered from 1 to its count.
-use Rattle.std.proofs.Common.{◌≡◌, ℕ, ◌+◌, Bool, true, false, cond, ◌&&◌, List, [], ◌∷◌, Option, Some, None, is_some, option_map, refl, sym, ◌∙◌, ap, subst, arith}
-use Rattle.std.specs.Prelude.{nat_le, IsSome, option_and_then}
-use Rattle.std.proofs.lemmas.Bool.Decides.{nat_tests}
-use Rattle.std.specs.Ordering.{eq_by_cmp}
-use Rattle.office_values.specs.Ids.{same_id}
-use Rattle.office_base.specs.Rows.{row_at}
-use Rattle.office_base.specs.declared.records.ReleaseRow.{ReleaseRow}
-use Rattle.office_base.specs.Tables.{release_cmp, find_notice, find_release, put_release}
-use Rattle.office_machine.specs.Publications.{published_for}
-use Rattle.office_machine.specs.Counted.{releases_in}
-use Rattle.office_machine.specs.Machine.{Means, Given, next}
-use Rattle.office_machine.specs.Releases.{AreNumbered, ReleasesAreNumbered}
-use Rattle.office_base.proofs.ExactKeys.{equal_ids, equal_keys, same_itself}
+use Rattle.office_machine.proofs.Names.{◌≡◌, ℕ, ◌+◌, Bool, true, false, cond, ◌&&◌, List, [], ◌∷◌, Option, Some, None, is_some, option_map, refl, sym, ◌∙◌, ap, subst, arith, nat_le, IsSome, option_and_then, nat_tests, eq_by_cmp, same_id, row_at, ReleaseRow, release_cmp, find_notice, find_release, put_release, published_for, releases_in, Means, Given, next, AreNumbered, ReleasesAreNumbered, equal_ids, equal_keys, same_itself, own_key}
 use Rattle.office_machine.proofs.Rows.Keyed.{found_put, elsewhere}
-use Rattle.office_base.proofs.RowLaws.Keyed.{own_key}
 use Rattle.office_machine.proofs.Rows.Keyed as keyed
 use Rattle.office_machine.proofs.Releases.ReleasesCounted.{Counts, published}
 use Rattle.office_machine.proofs.Parents.ParentsThere.{parents_there}

@@ -1,8 +1,5 @@
 -- Tests of rows.
-use Rattle.std.specs.Prelude.{Bool, Option}
-use Rattle.office_base.specs.declared.records.LotState.{LotState}
-use Rattle.office_base.specs.States.{is_open}
-use Rattle.office_base.specs.Rows.{holds_of}
+use Rattle.office_machine.proofs.Names.{Bool, Option, LotState, is_open, holds_of}
 
 -- a lot that can still be awarded, or was awarded and not signed
 abbrev pub is_live : Option LotState → Bool

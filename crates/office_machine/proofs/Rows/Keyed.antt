@@ -1,21 +1,5 @@
 -- Each table's key and its order, look-ups after a put, and sums over rows.
-use Rattle.std.proofs.Common.{◌≡◌, ℕ, ◌+◌, ◌≤◌, Bool, true, false, cond, List, [], ◌∷◌, Some, None, is_some, refl, sym, ◌∙◌, ap, ◌⊎◌, inl, inr, arith}
-use Rattle.std.specs.List.{AllByRecursion}
-use Rattle.std.specs.FinMap.{nat_cmp-IsAntisymmetric}
-use Rattle.std.specs.Cmp.{nat_cmp_total}
-use Rattle.std.specs.Cmp.Lexicographic.{nat_list_cmp_total}
-use Rattle.std.specs.Ordering.{nat_cmp, eq_by_cmp}
-use Rattle.std.specs.declared.cmp.Ordering.{Ordering}
-use Rattle.office_values.specs.Ids.{id_cmp}
-use Rattle.office_base.specs.Rows.{row_at, row_put, IsInOrder}
-use Rattle.office_base.specs.Sums.{sum_over}
-use Rattle.office_base.specs.Tables.{lot_cmp, entry_cmp, release_cmp, line_key, batch_key, tenderer_key, notice_key, lot_key, envelope_key, seal_key, security_key, award_key, contract_key, entry_key, release_key, compiled_key, late_key, performance_key}
-use Rattle.office_base.proofs.Orders.{lots_total, entries_total, releases_total}
-use Rattle.office_base.proofs.ExactKeys.{ids_exact, lots_exact, entries_exact, releases_exact, equal_keys}
-use Rattle.office_base.proofs.RowLaws.{row_at-row_put}
-use Rattle.office_base.proofs.RowLaws.Keyed.{IsKeyed, own_key}
-use Rattle.office_base.proofs.RowLaws.Found.{of_found, each_found}
-use Rattle.office_base.proofs.SumsOver.{sum_over-ext, sum_over-plus, weight, sum_over-put, sum_over-one}
+use Rattle.office_machine.proofs.Names.{◌≡◌, ℕ, ◌+◌, ◌≤◌, Bool, true, false, cond, List, [], ◌∷◌, Some, None, is_some, refl, sym, ◌∙◌, ap, ◌⊎◌, inl, inr, arith, AllByRecursion, nat_cmp-IsAntisymmetric, nat_cmp_total, nat_list_cmp_total, nat_cmp, eq_by_cmp, Ordering, id_cmp, row_at, row_put, IsInOrder, sum_over, lot_cmp, entry_cmp, release_cmp, line_key, batch_key, tenderer_key, notice_key, lot_key, envelope_key, seal_key, security_key, award_key, contract_key, entry_key, release_key, compiled_key, late_key, performance_key, lots_total, entries_total, releases_total, ids_exact, lots_exact, entries_exact, releases_exact, equal_keys, row_at-row_put, IsKeyed, own_key, of_found, each_found, sum_over-ext, sum_over-plus, weight, sum_over-put, sum_over-one}
 
 pub lines : IsKeyed id_cmp line_key
 lines = record { total = nat_list_cmp_total; exact = ids_exact }

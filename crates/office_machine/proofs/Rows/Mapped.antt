@@ -1,16 +1,5 @@
 -- A table whose rows are changed in place.
-use Rattle.std.proofs.Common.{◌≡◌, ℕ, ◌+◌, Bool, true, false, cond, List, [], ◌∷◌, map, filter, Some, None, option_map, refl, sym, ◌∙◌, ap, subst, arith}
-use Rattle.std.specs.List.{AllByRecursion}
-use Rattle.std.specs.Cmp.{tied_itself}
-use Rattle.std.specs.Ordering.{ordering_reverse}
-use Rattle.std.specs.declared.cmp.Ordering.{Ordering}
-use Rattle.std.specs.declared.cmp.Ordering.TheVariants.{Less, Equal, Greater}
-use Rattle.office_base.specs.Rows.{by_order, row_at, row_put, IsInOrder}
-use Rattle.office_base.specs.Sums.{sum_over}
-use Rattle.office_base.proofs.RowLaws.Keyed.{IsKeyed}
-use Rattle.office_base.proofs.RowLaws.Starts.{all_above}
-use Rattle.office_base.proofs.RowLaws.Filters.{all_filter}
-use Rattle.office_base.proofs.SumsOver.{sum_over-map}
+use Rattle.office_machine.proofs.Names.{◌≡◌, ℕ, ◌+◌, Bool, true, false, cond, List, [], ◌∷◌, map, filter, Some, None, option_map, refl, sym, ◌∙◌, ap, subst, arith, AllByRecursion, tied_itself, ordering_reverse, Ordering, Less, Equal, Greater, by_order, row_at, row_put, IsInOrder, sum_over, IsKeyed, all_above, all_filter, sum_over-map}
 
 -- the sum over the rows that pass
 pub sum_over-passing : {X : Type 0} (p : X → Bool) (f : X → ℕ) (xs : List X) → sum_over f (filter p xs) ≡ sum_over (λ x. cond (p x) (f x) 0) xs

@@ -1,13 +1,5 @@
 -- If each number is found, the keys of rows in order are these numbers.
-use Rattle.std.specs.Prelude.{◌≡◌, ℕ, zero, suc, ◌+◌, ◌≤◌, ◌<◌, ◌⊎◌, true, false, List, [], ◌∷◌, map, Some, None, is_some}
-use Rattle.std.proofs.Common.{refl, sym, ap, ◌∙◌, inl, inr, arith}
-use Rattle.std.specs.Cmp.{nat_cmp_total, nat_cmp_is}
-use Rattle.std.specs.Ordering.{nat_cmp}
-use Rattle.std.specs.declared.cmp.Ordering.TheVariants.{Less, Equal, Greater}
-use Rattle.office_base.specs.Rows.{by_order, row_at, IsInOrder}
-use Rattle.office_machine.specs.Fates.{numbers}
-use Rattle.office_base.proofs.Orders.{same_key}
-use Rattle.office_base.proofs.RowLaws.Starts.{none_below, above, tied}
+use Rattle.office_machine.proofs.Names.{◌≡◌, ℕ, zero, suc, ◌+◌, ◌≤◌, ◌<◌, ◌⊎◌, true, false, List, [], ◌∷◌, map, Some, None, is_some, refl, sym, ap, ◌∙◌, inl, inr, arith, nat_cmp_total, nat_cmp_is, nat_cmp, Less, Equal, Greater, by_order, row_at, IsInOrder, numbers, same_key, none_below, above, tied}
 
 module _ {X : Type 0} (key : X → ℕ) where
   -- each of the `n` numbers from `from` on is found, and no other

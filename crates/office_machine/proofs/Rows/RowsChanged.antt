@@ -1,16 +1,5 @@
 -- Tables whose rows are changed in place.
-use Rattle.std.specs.Prelude.{◌≡◌, Bool, true, false, cond, ◌&&◌, ◌||◌, List, [], ◌∷◌, map, filter, Option, Some, None, option_map}
-use Rattle.std.proofs.Common.{refl, sym, ap, ◌∙◌}
-use Rattle.std.specs.List.{AllByRecursion, list_any}
-use Rattle.std.specs.Cmp.{IsTotalOrder}
-use Rattle.std.specs.FinMap.{IsAntisymmetric}
-use Rattle.std.specs.Ordering.{is_eq, eq_by_cmp}
-use Rattle.std.specs.declared.cmp.Ordering.{Ordering}
-use Rattle.std.specs.declared.cmp.Ordering.TheVariants.{Less, Equal, Greater}
-use Rattle.office_base.specs.Rows.{by_order, row_at, row_put, row_drop, IsInOrder, holds_of}
-use Rattle.office_base.proofs.ExactKeys.{equal_keys}
-use Rattle.office_base.proofs.RowLaws.{row_at-row_put}
-use Rattle.office_base.proofs.RowLaws.Starts.{above, tied, all_above}
+use Rattle.office_machine.proofs.Names.{◌≡◌, Bool, true, false, cond, ◌&&◌, ◌||◌, List, [], ◌∷◌, map, filter, Option, Some, None, option_map, refl, sym, ap, ◌∙◌, AllByRecursion, list_any, IsTotalOrder, IsAntisymmetric, is_eq, eq_by_cmp, Ordering, Less, Equal, Greater, by_order, row_at, row_put, row_drop, IsInOrder, holds_of, equal_keys, row_at-row_put, above, tied, all_above}
 
 -- the rows of a table after these are put
 abbrev pub rows_put : {K X : Type 0} → (K → K → Ordering) → (X → K) → List X → List X → List X

@@ -1,20 +1,6 @@
 -- Rows that are put one after another.
-use Rattle.std.specs.Prelude.{◌≡◌, ℕ, ◌+◌, Bool, true, false, cond, ◌||◌, List, [], ◌∷◌, ◌++◌, map, Option, Some, None, IsSome}
-use Rattle.std.proofs.Common.{refl, sym, subst, arith}
-use Rattle.std.specs.List.{list_any, AllByRecursion}
-use Rattle.std.specs.Cmp.{IsTotalOrder}
-use Rattle.std.specs.Ordering.{eq_by_cmp}
-use Rattle.std.specs.declared.cmp.Ordering.{Ordering}
-use Rattle.office_base.specs.Rows.{row_at, row_put}
-use Rattle.office_base.specs.Sums.{sum_over}
-use Rattle.office_base.specs.Tables.{Tables, line_key, lot_key, lot_cmp, after_put, after_puts}
-use Rattle.office_base.specs.declared.records.LineRow.{LineRow}
-use Rattle.office_base.specs.declared.records.LotRow.{LotRow}
-use Rattle.office_base.specs.declared.puts.Put.{Put}
+use Rattle.office_machine.proofs.Names.{◌≡◌, ℕ, ◌+◌, Bool, true, false, cond, ◌||◌, List, [], ◌∷◌, ◌++◌, map, Option, Some, None, IsSome, refl, sym, subst, arith, list_any, AllByRecursion, IsTotalOrder, eq_by_cmp, Ordering, row_at, row_put, sum_over, Tables, line_key, lot_key, lot_cmp, after_put, after_puts, LineRow, LotRow, Put, id_cmp, row_at-row_put, still_there, sum_over-put_new}
 use Rattle.office_base.specs.declared.puts.Put.TheVariants as puts
-use Rattle.office_values.specs.Ids.{id_cmp}
-use Rattle.office_base.proofs.RowLaws.{row_at-row_put, still_there}
-use Rattle.office_base.proofs.SumsOver.{sum_over-put_new}
 
 -- the rows of a table after these are put
 abbrev pub rows_put : {K X : Type 0} → (K → K → Ordering) → (X → K) → List X → List X → List X

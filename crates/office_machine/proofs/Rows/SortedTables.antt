@@ -1,9 +1,6 @@
 -- The tables of a reached office are in the order of their keys.
-use Rattle.std.proofs.Common.{List}
-use Rattle.office_base.specs.Tables.{Tables, IsSorted}
-use Rattle.office_machine.specs.Machine.{Means, Given, Reaches, puts_of}
+use Rattle.office_machine.proofs.Names.{List, Tables, IsSorted, Means, Given, Reaches, puts_of, sorted-puts}
 use Rattle.office_machine.proofs.Runs.{along}
-use Rattle.office_base.proofs.SortedTables.{sorted-puts}
 
 pub sorted : (means : Means) (xs : List Given) (t : Tables) → Reaches means xs t → IsSorted t
 sorted means = along means (λ xs t. IsSorted t) (record { lines = tt; batches = tt; tenderers = tt; notices = tt; lots = tt; envelopes = tt; seals = tt; securities = tt; awards = tt; contracts = tt; entries = tt; releases = tt; compiled = tt; late_rules = tt; performances = tt })

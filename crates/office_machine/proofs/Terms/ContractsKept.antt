@@ -1,44 +1,9 @@
 -- A contract has the lot, the price and the tenderer of its award.
-use Rattle.std.specs.Prelude.{◌≡◌, ℕ, ◌+◌, Bool, true, false, cond, List, [], ◌∷◌, map, filter, Option, Some, None, is_some}
-use Rattle.std.proofs.Common.{refl, sym, ap, ◌∙◌, subst, inl, inr, arith}
-use Rattle.std.specs.List.{AllByRecursion}
-use Rattle.std.specs.Ordering.{eq_by_cmp}
-use Rattle.std.specs.declared.cmp.Ordering.{Ordering}
-use Rattle.office_commands.specs.Commands.{IsCommand}
-use Rattle.office_commands.specs.declared.command.Caller.{Caller}
-use Rattle.office_commands.specs.declared.commands.Command.{Command}
+use Rattle.office_machine.proofs.Names.{◌≡◌, ℕ, ◌+◌, Bool, true, false, cond, List, [], ◌∷◌, map, filter, Option, Some, None, is_some, refl, sym, ap, ◌∙◌, subst, inl, inr, arith, AllByRecursion, eq_by_cmp, Ordering, IsCommand, Caller, Command, How, NamedSecurity, envelope_of_award, line_of_lot, lot_of_award, lot_of_contract, notice_of_award, notice_of_contract, row_at, row_put, first_of, IsSorted, Tables, award_at, awards_of_notice, contract_at, envelope_at, envelopes_of_lot, envelopes_of_notice, find_award, find_envelope, lot_at, lots_of_notice, no_tables, notice_at, securities_of_lot, securities_of_notice, after_put, after_puts, is_held_security, passed_over, performance_settled, put_if, securities_returned, security_returned, security_settled, Put, AwardRow, ContractRow, EnvelopeRow, LineRow, LotRow, NoticeRow, ReleaseRow, SecurityRow, equal_keys, row_at-row_put, IsKeyed, found_key, award_put, cancelled_award, cancel_puts, cancel_rows, cancelled_lot_put, drop_put, envelope_put, freed_line_put, is_ended_award, is_ended_envelope, is_ended_security, is_open_lot, award_puts, award_row, award_rows, decision_puts, winner, end_puts, end_rows, ended_state, fail_puts, fail_rows, failed_award, contract_row, performance_put, sign_puts, sign_rows, signed_award, tenderer_in, ContractsAreOfAwards, IsOfAward, Reception, received_at, Readings, Given, Means, Reaches, command_tests, effect, publication, publication_puts, time_of}
 use Rattle.office_commands.specs.declared.commands.Command.TheVariants as commands
-use Rattle.office_commands.specs.declared.contract.How.{How}
-use Rattle.office_commands.specs.declared.tender.NamedSecurity.{NamedSecurity}
-use Rattle.office_base.specs.Parents.{envelope_of_award, line_of_lot, lot_of_award, lot_of_contract, notice_of_award, notice_of_contract}
-use Rattle.office_base.specs.Rows.{row_at, row_put}
-use Rattle.office_base.specs.Rules.{first_of}
-use Rattle.office_base.specs.Tables.{IsSorted, Tables, award_at, awards_of_notice, contract_at, envelope_at, envelopes_of_lot, envelopes_of_notice, find_award, find_envelope, lot_at, lots_of_notice, no_tables, notice_at, securities_of_lot, securities_of_notice, after_put, after_puts}
-use Rattle.office_base.specs.Transitions.{is_held_security, passed_over, performance_settled, put_if, securities_returned, security_returned, security_settled}
-use Rattle.office_base.specs.declared.puts.Put.{Put}
 use Rattle.office_base.specs.declared.puts.Put.TheVariants as puts
-use Rattle.office_base.specs.declared.records.AwardRow.{AwardRow}
 use Rattle.office_base.specs.declared.records.AwardState.TheVariants as award_states
-use Rattle.office_base.specs.declared.records.ContractRow.{ContractRow}
-use Rattle.office_base.specs.declared.records.EnvelopeRow.{EnvelopeRow}
-use Rattle.office_base.specs.declared.records.LineRow.{LineRow}
-use Rattle.office_base.specs.declared.records.LotRow.{LotRow}
-use Rattle.office_base.specs.declared.records.NoticeRow.{NoticeRow}
-use Rattle.office_base.specs.declared.records.ReleaseRow.{ReleaseRow}
-use Rattle.office_base.specs.declared.records.SecurityRow.{SecurityRow}
 use Rattle.office_base.specs.declared.records.SecurityState.TheVariants as security_states
-use Rattle.office_base.proofs.ExactKeys.{equal_keys}
-use Rattle.office_base.proofs.RowLaws.{row_at-row_put}
-use Rattle.office_base.proofs.RowLaws.Keyed.{IsKeyed, found_key}
-use Rattle.tender_core.specs.Rules.Cancel.{award_put, cancelled_award, cancel_puts, cancel_rows, cancelled_lot_put, drop_put, envelope_put, freed_line_put, is_ended_award, is_ended_envelope, is_ended_security, is_open_lot}
-use Rattle.award_core.specs.Rules.Award.{award_puts, award_row, award_rows, decision_puts, winner}
-use Rattle.award_core.specs.Rules.End.{end_puts, end_rows, ended_state}
-use Rattle.award_core.specs.Rules.Fail.{fail_puts, fail_rows, failed_award}
-use Rattle.award_core.specs.Rules.Sign.{contract_row, performance_put, sign_puts, sign_rows, signed_award, tenderer_in}
-use Rattle.office_machine.specs.ContractTerms.{ContractsAreOfAwards, IsOfAward}
-use Rattle.office_machine.specs.Fates.{Reception, received_at}
-use Rattle.office_machine.specs.Readings.{Readings}
-use Rattle.office_machine.specs.Machine.{Given, Means, Reaches, command_tests, effect, publication, publication_puts, time_of}
 use Rattle.office_machine.proofs.Accounts.AccountsKept as accounts
 use Rattle.office_machine.proofs.Accounts.Aside.{after-append}
 use Rattle.office_machine.proofs.Commands.{lawful}

@@ -1,50 +1,9 @@
 -- The budget files and the titles of budget lines are those that accepted imports gave.
-use Rattle.std.specs.Prelude.{◌≡◌, ℕ, Bool, true, false, cond, List, [], ◌∷◌, ◌++◌, map, filter, length, Option, Some, None, option_map, is_some, unwrap_or}
-use Rattle.std.proofs.Common.{refl, sym, ap, ◌∙◌, subst}
-use Rattle.std.specs.Cmp.Lexicographic.{nat_list_cmp_total}
-use Rattle.std.specs.List.{list_any, AllByRecursion}
-use Rattle.std.specs.Ordering.{eq_by_cmp}
-use Rattle.office_values.specs.Ids.{id_cmp, same_id}
-use Rattle.office_commands.specs.declared.budget.BudgetRow.{BudgetRow}
-use Rattle.office_commands.specs.declared.command.Caller.{Caller}
-use Rattle.office_commands.specs.declared.commands.Command.{Command}
+use Rattle.office_machine.proofs.Names.{◌≡◌, ℕ, Bool, true, false, cond, List, [], ◌∷◌, ◌++◌, map, filter, length, Option, Some, None, option_map, is_some, unwrap_or, refl, sym, ap, ◌∙◌, subst, nat_list_cmp_total, list_any, AllByRecursion, eq_by_cmp, id_cmp, same_id, BudgetRow, Caller, Command, ChangeKind, How, NewLot, LateWithdrawal, Forfeits, NewNotice, line_of_lot, lot_of_contract, notice_of_contract, row_at, first_of, standings, IsSorted, Tables, after_put, after_puts, awards_of_notice, batch_at, batch_key, contract_at, envelopes_of_lot, envelopes_of_notice, find_line, line_at, line_key, lot_at, lots_of_notice, no_tables, notice_at, put_line, securities_of_lot, securities_of_notice, is_held_security, performance_settled, securities_returned, security_returned, Put, AwardRow, BatchRow, ContractRow, EnvelopeRow, LineRow, LotRow, NoticeRow, ReleaseRow, SecurityRow, Standing, equal_keys, ids_exact, same_id_is, row_at-row_put, found_key, award_put, cancel_puts, cancel_rows, cancelled_lot_put, drop_put, envelope_put, freed_line_put, is_ended_award, is_ended_envelope, is_ended_security, is_open_lot, after_rows, imported_line, is_on_no_line, late_puts, new_lot_put, no_line, publish_parts, publish_puts, publish_rows, publish_tests, reserving_line_put, amend_contract_puts, amend_contract_rows, line_after, award_puts, award_rows, decision_puts, winner, end_puts, end_rows, ended_state, HasImports, ImportsAreKept, batch_after, line_title, title_after, title_in, Given, Means, Reaches, command_tests, effect, publication, publication_puts, time_of}
 use Rattle.office_commands.specs.declared.commands.Command.TheVariants as commands
-use Rattle.office_commands.specs.declared.contract.ChangeKind.{ChangeKind}
 use Rattle.office_commands.specs.declared.contract.ChangeKind.TheVariants as change_kinds
-use Rattle.office_commands.specs.declared.contract.How.{How}
-use Rattle.office_commands.specs.declared.lot.NewLot.{NewLot}
-use Rattle.office_commands.specs.declared.notice.LateWithdrawal.{LateWithdrawal}
-use Rattle.office_commands.specs.declared.notice.LateWithdrawal.TheVariants.{Refused, Forfeits}
-use Rattle.office_commands.specs.declared.notice.NewNotice.{NewNotice}
-use Rattle.office_base.specs.Parents.{line_of_lot, lot_of_contract, notice_of_contract}
-use Rattle.office_base.specs.Rows.{row_at}
-use Rattle.office_base.specs.Rules.{first_of}
-use Rattle.office_base.specs.Standings.{standings}
-use Rattle.office_base.specs.Tables.{IsSorted, Tables, after_put, after_puts, awards_of_notice, batch_at, batch_key, contract_at, envelopes_of_lot, envelopes_of_notice, find_line, line_at, line_key, lot_at, lots_of_notice, no_tables, notice_at, put_line, securities_of_lot, securities_of_notice}
-use Rattle.office_base.specs.Transitions.{is_held_security, performance_settled, securities_returned, security_returned}
-use Rattle.office_base.specs.declared.puts.Put.{Put}
+use Rattle.office_commands.specs.declared.notice.LateWithdrawal.TheVariants.{Refused}
 use Rattle.office_base.specs.declared.puts.Put.TheVariants as puts
-use Rattle.office_base.specs.declared.records.AwardRow.{AwardRow}
-use Rattle.office_base.specs.declared.records.BatchRow.{BatchRow}
-use Rattle.office_base.specs.declared.records.ContractRow.{ContractRow}
-use Rattle.office_base.specs.declared.records.EnvelopeRow.{EnvelopeRow}
-use Rattle.office_base.specs.declared.records.LineRow.{LineRow}
-use Rattle.office_base.specs.declared.records.LotRow.{LotRow}
-use Rattle.office_base.specs.declared.records.NoticeRow.{NoticeRow}
-use Rattle.office_base.specs.declared.records.ReleaseRow.{ReleaseRow}
-use Rattle.office_base.specs.declared.records.SecurityRow.{SecurityRow}
-use Rattle.office_base.specs.declared.standing.Standing.{Standing}
-use Rattle.office_base.proofs.ExactKeys.{equal_keys, ids_exact, same_id_is}
-use Rattle.office_base.proofs.RowLaws.{row_at-row_put}
-use Rattle.office_base.proofs.RowLaws.Keyed.{found_key}
-use Rattle.tender_core.specs.Rules.Cancel.{award_put, cancel_puts, cancel_rows, cancelled_lot_put, drop_put, envelope_put, freed_line_put, is_ended_award, is_ended_envelope, is_ended_security, is_open_lot}
-use Rattle.tender_core.specs.Rules.Import.{after_rows, imported_line}
-use Rattle.tender_core.specs.Rules.Publish.{is_on_no_line, late_puts, new_lot_put, no_line, publish_parts, publish_puts, publish_rows, publish_tests, reserving_line_put}
-use Rattle.award_core.specs.Rules.AmendContract.{amend_contract_puts, amend_contract_rows, line_after}
-use Rattle.award_core.specs.Rules.Award.{award_puts, award_rows, decision_puts, winner}
-use Rattle.award_core.specs.Rules.End.{end_puts, end_rows, ended_state}
-use Rattle.office_machine.specs.Imports.{HasImports, ImportsAreKept, batch_after, line_title, title_after, title_in}
-use Rattle.office_machine.specs.Machine.{Given, Means, Reaches, command_tests, effect, publication, publication_puts, time_of}
 use Rattle.office_machine.proofs.Accounts.Aside.{after-append}
 use Rattle.office_machine.proofs.Commands.Footprint.{Lines, Batches, Reads}
 use Rattle.office_machine.proofs.FateLaws.QuietFates.{all_append, all_of_map}

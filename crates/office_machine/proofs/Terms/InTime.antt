@@ -1,33 +1,7 @@
 -- Once a tender of a notice came late, none is in time.
-use Rattle.std.specs.Prelude.{◌≡◌, ℕ, ◌≤◌, ◌<◌, ◌⊎◌, Bool, true, false, not, cond, ◌&&◌, ◌||◌, List, [], ◌∷◌, Option, Some, None, option_map, is_some, nat_le, nat_lt}
-use Rattle.std.proofs.Common.{refl, sym, ap, ◌∙◌, subst, inl, inr, arith}
-use Rattle.std.proofs.Math.Nat.{le-max_right}
-use Rattle.std.proofs.lemmas.Bool.Decides.{nat_tests}
-use Rattle.office_commands.specs.declared.command.Caller.{Caller}
-use Rattle.office_commands.specs.declared.commands.Command.{Command}
+use Rattle.office_machine.proofs.Names.{◌≡◌, ℕ, ◌≤◌, ◌<◌, ◌⊎◌, Bool, true, false, not, cond, ◌&&◌, ◌||◌, List, [], ◌∷◌, Option, Some, None, option_map, is_some, nat_le, nat_lt, refl, sym, ap, ◌∙◌, subst, inl, inr, arith, le-max_right, nat_tests, Caller, Command, NewNotice, same_id, notice_of_envelope, holds_of, first_of, is_opened, is_receiving, Tables, envelope_at, notice_at, seal_at, is_in_time, is_past_deadline, EnvelopeRow, NoticeRow, NoticeState, equal_ids, amend_notice_rows, amend_notice_tests, amended, cancelled_notice, modify_rows, modify_tests, open_rows, open_tests, opened_notice, present_rows, present_tests, notice_row, publish_rows, publish_tests, Reception, TenderIs, fate_of_tender, received_at, reception_replacing, NoneInTimeAfterLate, has_come_late, is_in_time_for, is_late_for, taken_in, Given, Means, Reaches, command_tests, time_of, ClockRow}
 use Rattle.office_commands.specs.declared.commands.Command.TheVariants as commands
-use Rattle.office_commands.specs.declared.notice.NewNotice.{NewNotice}
-use Rattle.office_values.specs.Ids.{same_id}
-use Rattle.office_base.specs.Parents.{notice_of_envelope}
-use Rattle.office_base.specs.Rows.{holds_of}
-use Rattle.office_base.specs.Rules.{first_of}
-use Rattle.office_base.specs.States.{is_opened, is_receiving}
-use Rattle.office_base.specs.Tables.{Tables, envelope_at, notice_at, seal_at}
-use Rattle.office_base.specs.Transitions.{is_in_time, is_past_deadline}
-use Rattle.office_base.specs.declared.records.EnvelopeRow.{EnvelopeRow}
-use Rattle.office_base.specs.declared.records.NoticeRow.{NoticeRow}
-use Rattle.office_base.specs.declared.records.NoticeState.{NoticeState}
 use Rattle.office_base.specs.declared.records.NoticeState.TheVariants as notice_states
-use Rattle.office_base.proofs.ExactKeys.{equal_ids}
-use Rattle.tender_core.specs.Rules.AmendNotice.{amend_notice_rows, amend_notice_tests, amended}
-use Rattle.tender_core.specs.Rules.Cancel.{cancelled_notice}
-use Rattle.tender_core.specs.Rules.Modify.{modify_rows, modify_tests}
-use Rattle.tender_core.specs.Rules.Open.{open_rows, open_tests, opened_notice}
-use Rattle.tender_core.specs.Rules.Present.{present_rows, present_tests}
-use Rattle.tender_core.specs.Rules.Publish.{notice_row, publish_rows, publish_tests}
-use Rattle.office_machine.specs.Fates.{Reception, TenderIs, fate_of_tender, received_at, reception_replacing}
-use Rattle.office_machine.specs.InTime.{NoneInTimeAfterLate, has_come_late, is_in_time_for, is_late_for, taken_in}
-use Rattle.office_machine.specs.Machine.{Given, Means, Reaches, command_tests, time_of}
 use Rattle.office_machine.proofs.FateLaws.FatesKept.{tenders_kept}
 use Rattle.office_machine.proofs.Parents.ParentsThere.{parents_there}
 use Rattle.office_machine.proofs.Passed.{allowed_by, at_least, none_holds, not_false, test_of, witness}
@@ -35,7 +9,6 @@ use Rattle.office_machine.proofs.Releases.NextIs.{next_is}
 use Rattle.office_machine.proofs.Runs.{along}
 use Rattle.office_machine.proofs.Terms.Said.{Has, uncounted}
 use Rattle.office_machine.proofs.Terms.TermsKept.{all_has, notice_after, notice_by, said, with_change}
-use Rattle.office_base.specs.declared.records.ClockRow.{ClockRow}
 
 above : (a b : ℕ) → nat_le a b ≡ false → b < a
 above a b e = grind (arith, nat_tests, e)

@@ -1,34 +1,6 @@
 -- A list that is read page by page while the office works shows each row once.
-use Rattle.std.specs.Prelude.{◌≡◌, ◌<◌, ◌+◌, ◌-◌, ◌⊎◌, ℕ, zero, suc, Bool, true, false, cond, ◌||◌, nat_lt, List, [], ◌∷◌, ◌++◌, length, map, take, drop, slice_get, Option, Some, None, IsSome, is_some, option_map}
-use Rattle.std.proofs.Common.{inl, inr, refl, sym, ap, subst, ◌∙◌, arith}
-use Rattle.std.proofs.lemmas.Bool.{ltb-true, ltb-false}
-use Rattle.std.proofs.lemmas.List.{append-nil, take_all, take-append-drop, length-take}
-use Rattle.std.proofs.lemmas.List.Folds.{list_any-append}
-use Rattle.std.proofs.lemmas.Option.{slice_get_cases}
-use Rattle.std.specs.List.{list_any, AllByRecursion}
-use Rattle.std.specs.Ordering.{eq_by_cmp, is_lt}
-use Rattle.std.specs.declared.cmp.Ordering.{Ordering}
-use Rattle.std.specs.declared.cmp.Ordering.TheVariants.{Less, Equal, Greater}
-use Rattle.office_commands.specs.declared.commands.Command.{Command}
+use Rattle.office_machine.proofs.Names.{◌≡◌, ◌<◌, ◌+◌, ◌-◌, ◌⊎◌, ℕ, zero, suc, Bool, true, false, cond, ◌||◌, nat_lt, List, [], ◌∷◌, ◌++◌, length, map, take, drop, slice_get, Option, Some, None, IsSome, is_some, option_map, inl, inr, refl, sym, ap, subst, ◌∙◌, arith, ltb-true, ltb-false, append-nil, take_all, take-append-drop, length-take, list_any-append, slice_get_cases, list_any, AllByRecursion, eq_by_cmp, is_lt, Ordering, Less, Equal, Greater, Command, id_cmp, same_id, followed, is_after, next_after, rows_after, IsInOrder, StartsAbove, row_at, Tables, notice_at, notice_key, tenderer_key, NoticeRow, TendererRow, equal_keys, in_order-filter, each_found, IsKeyed, own_key, all_above, start_of, amended, cancelled_notice, opened_notice, notice_row, Given, Means, Reaches, time_of, LeadAlong, NothingIsTakenAway, PagesAreWholeAlong, SeesEachOnce, reaches_end, if_next, notices_in, read_along, tenderers_in, tenderer_after, tenderer_by}
 use Rattle.office_commands.specs.declared.commands.Command.TheVariants as commands
-use Rattle.office_values.specs.Ids.{id_cmp, same_id}
-use Rattle.office_base.specs.Pages.{followed, is_after, next_after, rows_after}
-use Rattle.office_base.specs.Rows.{IsInOrder, StartsAbove, row_at}
-use Rattle.office_base.specs.Tables.{Tables, notice_at, notice_key, tenderer_key}
-use Rattle.office_base.specs.declared.records.NoticeRow.{NoticeRow}
-use Rattle.office_base.specs.declared.records.TendererRow.{TendererRow}
-use Rattle.office_base.proofs.ExactKeys.{equal_keys}
-use Rattle.office_base.proofs.RowLaws.Filters.{in_order-filter}
-use Rattle.office_base.proofs.RowLaws.Found.{each_found}
-use Rattle.office_base.proofs.RowLaws.Keyed.{IsKeyed, own_key}
-use Rattle.office_base.proofs.RowLaws.Starts.{all_above, start_of}
-use Rattle.tender_core.specs.Rules.AmendNotice.{amended}
-use Rattle.tender_core.specs.Rules.Cancel.{cancelled_notice}
-use Rattle.tender_core.specs.Rules.Open.{opened_notice}
-use Rattle.tender_core.specs.Rules.Publish.{notice_row}
-use Rattle.office_machine.specs.Machine.{Given, Means, Reaches, time_of}
-use Rattle.office_machine.specs.PagesAlong.{LeadAlong, NothingIsTakenAway, PagesAreWholeAlong, SeesEachOnce, reaches_end, if_next, notices_in, read_along, tenderers_in}
-use Rattle.office_machine.specs.Registered.{tenderer_after, tenderer_by}
 use Rattle.office_machine.proofs.FateLaws.QuietFates.{all_append}
 use Rattle.office_machine.proofs.Rows.SortedTables.{sorted}
 use Rattle.office_machine.proofs.Terms.Said.{uncounted}

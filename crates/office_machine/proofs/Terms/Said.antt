@@ -1,22 +1,6 @@
 -- Puts keep the terms and entries that accepted commands gave.
-use Rattle.std.specs.Prelude.{◌≡◌, ℕ, Bool, true, false, cond, ◌||◌, List, [], ◌∷◌, ◌++◌, Option, Some, None, option_map}
-use Rattle.std.proofs.Common.{refl, sym, ap, ◌∙◌, subst}
-use Rattle.std.specs.List.{list_any, AllByRecursion}
-use Rattle.std.specs.Ordering.{eq_by_cmp}
-use Rattle.std.specs.declared.cmp.Ordering.{Ordering}
-use Rattle.office_values.specs.Ids.{id_cmp}
-use Rattle.office_base.specs.Rows.{row_at, row_put}
-use Rattle.office_base.specs.Tables.{Tables, entry_cmp, lot_cmp, entry_at, lot_at, notice_at, tenderer_at, after_put, after_puts}
-use Rattle.office_base.specs.Transitions.{put_if}
-use Rattle.office_base.specs.declared.puts.Put.{Put}
+use Rattle.office_machine.proofs.Names.{◌≡◌, ℕ, Bool, true, false, cond, ◌||◌, List, [], ◌∷◌, ◌++◌, Option, Some, None, option_map, refl, sym, ap, ◌∙◌, subst, list_any, AllByRecursion, eq_by_cmp, Ordering, id_cmp, row_at, row_put, Tables, entry_cmp, lot_cmp, entry_at, lot_at, notice_at, tenderer_at, after_put, after_puts, put_if, Put, EntryRow, NoticeRow, TendererRow, entries_exact, equal_keys, ids_exact, lots_exact, row_at-row_put, IsKeyed, LotTerms, lot_terms}
 use Rattle.office_base.specs.declared.puts.Put.TheVariants as puts
-use Rattle.office_base.specs.declared.records.EntryRow.{EntryRow}
-use Rattle.office_base.specs.declared.records.NoticeRow.{NoticeRow}
-use Rattle.office_base.specs.declared.records.TendererRow.{TendererRow}
-use Rattle.office_base.proofs.ExactKeys.{entries_exact, equal_keys, ids_exact, lots_exact}
-use Rattle.office_base.proofs.RowLaws.{row_at-row_put}
-use Rattle.office_base.proofs.RowLaws.Keyed.{IsKeyed}
-use Rattle.office_machine.specs.Terms.{LotTerms, lot_terms}
 use Rattle.office_machine.proofs.Passed.{neither}
 use Rattle.office_machine.proofs.Rows.Keyed as keyed
 

@@ -1,63 +1,9 @@
 -- The terms of notices and lots, and the entries of contracts, are those that accepted commands gave them.
-use Rattle.std.specs.Prelude.{◌≡◌, ℕ, Bool, true, false, cond, ◌&&◌, List, [], ◌∷◌, ◌++◌, map, filter, Option, Some, None, option_map, is_some}
-use Rattle.std.proofs.Common.{refl, sym, ap, ◌∙◌, subst}
-use Rattle.std.specs.Cmp.{nat_cmp_total}
-use Rattle.std.specs.FinMap.{nat_cmp-IsAntisymmetric}
-use Rattle.std.specs.List.{list_any, AllByRecursion}
-use Rattle.std.specs.Ordering.{eq_by_cmp}
-use Rattle.office_commands.specs.Commands.{IsCommand}
-use Rattle.office_commands.specs.Identified.{repeats_id}
-use Rattle.office_commands.specs.Lots.{lot_id}
-use Rattle.office_commands.specs.declared.command.Caller.{Caller}
-use Rattle.office_commands.specs.declared.commands.Command.{Command}
+use Rattle.office_machine.proofs.Names.{◌≡◌, ℕ, Bool, true, false, cond, ◌&&◌, List, [], ◌∷◌, ◌++◌, map, filter, Option, Some, None, option_map, is_some, refl, sym, ap, ◌∙◌, subst, nat_cmp_total, nat_cmp-IsAntisymmetric, list_any, AllByRecursion, eq_by_cmp, IsCommand, repeats_id, lot_id, Caller, Command, ChangeKind, How, NewLot, LateWithdrawal, Forfeits, NewNotice, NamedSecurity, id_cmp, same_id, line_of_lot, lot_of_award, lot_of_contract, notice_of_award, notice_of_contract, row_at, first_of, IsSorted, Tables, award_at, awards_of_notice, contract_at, entry_cmp, envelopes_of_lot, envelopes_of_notice, lot_at, lot_cmp, lots_of_notice, no_tables, notice_at, same_number, securities_of_lot, securities_of_notice, after_puts, is_held_security, passed_over, performance_settled, put_if, securities_returned, security_returned, security_settled, Put, AwardRow, ClockRow, ContractRow, Payment, EntryRow, EnvelopeRow, LineRow, LotRow, NoticeRow, ReleaseRow, SecurityRow, TendererRow, equal_ids, equal_keys, same_id_is, same_itself, entries_total, lots_total, found_key, own_key, amend_notice_puts, amend_notice_rows, amend_notice_tests, amended, award_put, cancel_puts, cancel_rows, cancel_tests, cancelled_lot_put, cancelled_notice, drop_put, envelope_put, freed_line_put, is_ended_award, is_ended_envelope, is_ended_security, is_open_lot, SealedTender, open_puts, open_rows, open_tests, opened_notice, opened_put, late_puts, new_lot_put, notice_row, publish_parts, publish_puts, publish_rows, publish_tests, reserving_line_put, register_puts, register_rows, amend_contract_puts, amend_contract_rows, amend_contract_tests, entry_kind, award_puts, award_rows, decision_puts, winner, end_puts, end_rows, ended_state, fail_puts, fail_rows, pay_puts, pay_rows, pay_tests, performance_put, sign_puts, sign_rows, EntriesAreKept, entry_after, entry_made, is_entry, Given, Means, Reaches, command_tests, effect, publication, publication_puts, time_of, TenderersAreKept, tenderer_after, sealed_tenders, NoticeTerms, TermsAreKept, lot_named, lot_terms, lot_terms_after, new_lot_terms, notice_terms, notice_terms_after, notice_terms_by, with_deadline}
 use Rattle.office_commands.specs.declared.commands.Command.TheVariants as commands
-use Rattle.office_commands.specs.declared.contract.ChangeKind.{ChangeKind}
-use Rattle.office_commands.specs.declared.contract.How.{How}
-use Rattle.office_commands.specs.declared.lot.NewLot.{NewLot}
-use Rattle.office_commands.specs.declared.notice.LateWithdrawal.{LateWithdrawal}
-use Rattle.office_commands.specs.declared.notice.LateWithdrawal.TheVariants.{Refused, Forfeits}
-use Rattle.office_commands.specs.declared.notice.NewNotice.{NewNotice}
-use Rattle.office_commands.specs.declared.tender.NamedSecurity.{NamedSecurity}
-use Rattle.office_values.specs.Ids.{id_cmp, same_id}
-use Rattle.office_base.specs.Parents.{line_of_lot, lot_of_award, lot_of_contract, notice_of_award, notice_of_contract}
-use Rattle.office_base.specs.Rows.{row_at}
-use Rattle.office_base.specs.Rules.{first_of}
-use Rattle.office_base.specs.Tables.{IsSorted, Tables, award_at, awards_of_notice, contract_at, entry_cmp, envelopes_of_lot, envelopes_of_notice, lot_at, lot_cmp, lots_of_notice, no_tables, notice_at, same_number, securities_of_lot, securities_of_notice, after_puts}
-use Rattle.office_base.specs.Transitions.{is_held_security, passed_over, performance_settled, put_if, securities_returned, security_returned, security_settled}
-use Rattle.office_base.specs.declared.puts.Put.{Put}
+use Rattle.office_commands.specs.declared.notice.LateWithdrawal.TheVariants.{Refused}
 use Rattle.office_base.specs.declared.puts.Put.TheVariants as puts
-use Rattle.office_base.specs.declared.records.AwardRow.{AwardRow}
-use Rattle.office_base.specs.declared.records.ClockRow.{ClockRow}
-use Rattle.office_base.specs.declared.records.ContractRow.{ContractRow}
-use Rattle.office_base.specs.declared.records.EntryKind.TheVariants.{Payment}
-use Rattle.office_base.specs.declared.records.EntryRow.{EntryRow}
-use Rattle.office_base.specs.declared.records.EnvelopeRow.{EnvelopeRow}
-use Rattle.office_base.specs.declared.records.LineRow.{LineRow}
-use Rattle.office_base.specs.declared.records.LotRow.{LotRow}
-use Rattle.office_base.specs.declared.records.NoticeRow.{NoticeRow}
-use Rattle.office_base.specs.declared.records.ReleaseRow.{ReleaseRow}
-use Rattle.office_base.specs.declared.records.SecurityRow.{SecurityRow}
 use Rattle.office_base.specs.declared.records.SecurityState.TheVariants as security_states
-use Rattle.office_base.specs.declared.records.TendererRow.{TendererRow}
-use Rattle.office_base.proofs.ExactKeys.{equal_ids, equal_keys, same_id_is, same_itself}
-use Rattle.office_base.proofs.Orders.{entries_total, lots_total}
-use Rattle.office_base.proofs.RowLaws.Keyed.{found_key, own_key}
-use Rattle.tender_core.specs.Rules.AmendNotice.{amend_notice_puts, amend_notice_rows, amend_notice_tests, amended}
-use Rattle.tender_core.specs.Rules.Cancel.{award_put, cancel_puts, cancel_rows, cancel_tests, cancelled_lot_put, cancelled_notice, drop_put, envelope_put, freed_line_put, is_ended_award, is_ended_envelope, is_ended_security, is_open_lot}
-use Rattle.tender_core.specs.Rules.Open.{SealedTender, open_puts, open_rows, open_tests, opened_notice, opened_put}
-use Rattle.tender_core.specs.Rules.Publish.{late_puts, new_lot_put, notice_row, publish_parts, publish_puts, publish_rows, publish_tests, reserving_line_put}
-use Rattle.tender_core.specs.Rules.Register.{register_puts, register_rows}
-use Rattle.award_core.specs.Rules.AmendContract.{amend_contract_puts, amend_contract_rows, amend_contract_tests, entry_kind}
-use Rattle.award_core.specs.Rules.Award.{award_puts, award_rows, decision_puts, winner}
-use Rattle.award_core.specs.Rules.End.{end_puts, end_rows, ended_state}
-use Rattle.award_core.specs.Rules.Fail.{fail_puts, fail_rows}
-use Rattle.award_core.specs.Rules.Pay.{pay_puts, pay_rows, pay_tests}
-use Rattle.award_core.specs.Rules.Sign.{performance_put, sign_puts, sign_rows}
-use Rattle.office_machine.specs.Entries.{EntriesAreKept, entry_after, entry_made, is_entry}
-use Rattle.office_machine.specs.Machine.{Given, Means, Reaches, command_tests, effect, publication, publication_puts, time_of}
-use Rattle.office_machine.specs.Registered.{TenderersAreKept, tenderer_after}
-use Rattle.office_machine.specs.Rule.{sealed_tenders}
-use Rattle.office_machine.specs.Terms.{NoticeTerms, TermsAreKept, lot_named, lot_terms, lot_terms_after, new_lot_terms, notice_terms, notice_terms_after, notice_terms_by, with_deadline}
 use Rattle.office_machine.proofs.Accounts.Aside.{after-append}
 use Rattle.office_machine.proofs.Commands.Footprint.{Entries, Lots, Notices, Reads, Tenderers}
 use Rattle.office_machine.proofs.FateLaws.QuietFates.{all_append, all_of_map}

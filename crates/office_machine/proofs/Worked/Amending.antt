@@ -1,7 +1,5 @@
 -- Worked examples of amending, computed.
-use Rattle.std.proofs.Common.{refl}
-use Rattle.office_base.specs.Rows.{row_at, row_put, row_drop}
-use Rattle.office_machine.specs.Worked.Amending.{AmendingWorked}
+use Rattle.office_machine.proofs.Names.{refl, row_at, row_put, row_drop, AmendingWorked}
 
 pub amending_worked : AmendingWorked
 unfolding row_at row_put row_drop

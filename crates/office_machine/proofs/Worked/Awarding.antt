@@ -1,7 +1,5 @@
 -- Worked examples of awarding, computed.
-use Rattle.std.proofs.Common.{refl}
-use Rattle.office_base.specs.Rows.{row_at, row_put, row_drop}
-use Rattle.office_machine.specs.Worked.Awarding.{AwardingWorked}
+use Rattle.office_machine.proofs.Names.{refl, row_at, row_put, row_drop, AwardingWorked}
 
 pub awarding_worked : AwardingWorked
 unfolding row_at row_put row_drop

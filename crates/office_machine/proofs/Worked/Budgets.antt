@@ -1,7 +1,5 @@
 -- Worked examples of budgets, computed.
-use Rattle.std.proofs.Common.{refl}
-use Rattle.office_base.specs.Rows.{row_at, row_put, row_drop}
-use Rattle.office_machine.specs.Worked.Budgets.{BudgetsWorked}
+use Rattle.office_machine.proofs.Names.{refl, row_at, row_put, row_drop, BudgetsWorked}
 
 pub budgets_worked : BudgetsWorked
 unfolding row_at row_put row_drop

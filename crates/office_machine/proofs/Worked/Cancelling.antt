@@ -1,7 +1,5 @@
 -- Worked examples of cancelling, computed.
-use Rattle.std.proofs.Common.{refl}
-use Rattle.office_base.specs.Rows.{row_at, row_put, row_drop}
-use Rattle.office_machine.specs.Worked.Cancelling.{CancellingWorked}
+use Rattle.office_machine.proofs.Names.{refl, row_at, row_put, row_drop, CancellingWorked}
 
 pub cancelling_worked : CancellingWorked
 unfolding row_at row_put row_drop

@@ -1,7 +1,5 @@
 -- Worked examples of contracts, computed.
-use Rattle.std.proofs.Common.{refl}
-use Rattle.office_base.specs.Rows.{row_at, row_put, row_drop}
-use Rattle.office_machine.specs.Worked.Contracts.{ContractsWorked}
+use Rattle.office_machine.proofs.Names.{refl, row_at, row_put, row_drop, ContractsWorked}
 
 pub contracts_worked : ContractsWorked
 unfolding row_at row_put row_drop

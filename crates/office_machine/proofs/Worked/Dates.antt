@@ -1,7 +1,5 @@
 -- The dates of the worked examples, computed.
-use Rattle.std.proofs.Common.{refl}
-use Rattle.office_values.specs.Moments.{year_after, month_after, moment_text}
-use Rattle.office_machine.specs.Worked.Dates.{DatesWorked}
+use Rattle.office_machine.proofs.Names.{refl, year_after, month_after, moment_text, DatesWorked}
 
 pub dates_worked : DatesWorked
 unfolding moment_text year_after month_after

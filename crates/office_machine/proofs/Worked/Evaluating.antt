@@ -1,7 +1,5 @@
 -- Worked examples of evaluations, computed.
-use Rattle.std.proofs.Common.{refl}
-use Rattle.office_base.specs.Rows.{row_at, row_put, row_drop}
-use Rattle.office_machine.specs.Worked.Evaluating.{EvaluatingWorked}
+use Rattle.office_machine.proofs.Names.{refl, row_at, row_put, row_drop, EvaluatingWorked}
 
 pub evaluating_worked : EvaluatingWorked
 unfolding row_at row_put row_drop

@@ -1,7 +1,5 @@
 -- Worked examples of examining, computed.
-use Rattle.std.proofs.Common.{refl}
-use Rattle.office_base.specs.Rows.{row_at, row_put, row_drop}
-use Rattle.office_machine.specs.Worked.Examining.{ExaminingWorked}
+use Rattle.office_machine.proofs.Names.{refl, row_at, row_put, row_drop, ExaminingWorked}
 
 pub examining_worked : ExaminingWorked
 unfolding row_at row_put row_drop

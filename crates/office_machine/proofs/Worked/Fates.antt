@@ -1,7 +1,5 @@
 -- Worked examples of fates, computed.
-use Rattle.std.proofs.Common.{refl}
-use Rattle.office_base.specs.Rows.{row_at, row_put, row_drop}
-use Rattle.office_machine.specs.Worked.Fates.{FatesWorked}
+use Rattle.office_machine.proofs.Names.{refl, row_at, row_put, row_drop, FatesWorked}
 
 pub fates_worked : FatesWorked
 unfolding row_at row_put row_drop

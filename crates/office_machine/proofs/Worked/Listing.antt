@@ -1,7 +1,5 @@
 -- Worked examples of lists, computed.
-use Rattle.std.proofs.Common.{refl}
-use Rattle.office_base.specs.Rows.{row_at, row_put, row_drop}
-use Rattle.office_machine.specs.Worked.Listing.{ListingWorked}
+use Rattle.office_machine.proofs.Names.{refl, row_at, row_put, row_drop, ListingWorked}
 
 pub listing_worked : ListingWorked
 unfolding row_at row_put row_drop

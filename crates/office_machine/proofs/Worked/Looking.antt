@@ -1,7 +1,5 @@
 -- Worked examples of queries, computed.
-use Rattle.std.proofs.Common.{refl}
-use Rattle.office_base.specs.Rows.{row_at, row_put, row_drop}
-use Rattle.office_machine.specs.Worked.Looking.{LookingWorked}
+use Rattle.office_machine.proofs.Names.{refl, row_at, row_put, row_drop, LookingWorked}
 
 pub looking_worked : LookingWorked
 unfolding row_at row_put row_drop

@@ -1,7 +1,5 @@
 -- Worked examples of opening, computed.
-use Rattle.std.proofs.Common.{refl}
-use Rattle.office_base.specs.Rows.{row_at, row_put, row_drop}
-use Rattle.office_machine.specs.Worked.Opening.{OpeningWorked}
+use Rattle.office_machine.proofs.Names.{refl, row_at, row_put, row_drop, OpeningWorked}
 
 pub opening_worked : OpeningWorked
 unfolding row_at row_put row_drop

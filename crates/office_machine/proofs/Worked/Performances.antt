@@ -1,7 +1,5 @@
 -- Worked examples of performance securities, computed.
-use Rattle.std.proofs.Common.{refl}
-use Rattle.office_base.specs.Rows.{row_at, row_put, row_drop}
-use Rattle.office_machine.specs.Worked.Performances.{PerformancesWorked}
+use Rattle.office_machine.proofs.Names.{refl, row_at, row_put, row_drop, PerformancesWorked}
 
 pub performances_worked : PerformancesWorked
 unfolding row_at row_put row_drop

@@ -1,7 +1,5 @@
 -- Worked examples of publishing, computed.
-use Rattle.std.proofs.Common.{refl}
-use Rattle.office_base.specs.Rows.{row_at, row_put, row_drop}
-use Rattle.office_machine.specs.Worked.Publishing.{PublishingWorked}
+use Rattle.office_machine.proofs.Names.{refl, row_at, row_put, row_drop, PublishingWorked}
 
 pub publishing_worked : PublishingWorked
 unfolding row_at row_put row_drop

@@ -1,7 +1,5 @@
 -- Worked examples of receiving, computed.
-use Rattle.std.proofs.Common.{refl}
-use Rattle.office_base.specs.Rows.{row_at, row_put, row_drop}
-use Rattle.office_machine.specs.Worked.Receiving.{ReceivingWorked}
+use Rattle.office_machine.proofs.Names.{refl, row_at, row_put, row_drop, ReceivingWorked}
 
 pub receiving_worked : ReceivingWorked
 unfolding row_at row_put row_drop

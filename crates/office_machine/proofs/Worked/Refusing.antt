@@ -1,7 +1,5 @@
 -- Worked examples of refusals, computed.
-use Rattle.std.proofs.Common.{refl}
-use Rattle.office_base.specs.Rows.{row_at, row_put, row_drop}
-use Rattle.office_machine.specs.Worked.Refusing.{RefusingWorked}
+use Rattle.office_machine.proofs.Names.{refl, row_at, row_put, row_drop, RefusingWorked}
 
 pub refusing_worked : RefusingWorked
 unfolding row_at row_put row_drop

@@ -1,7 +1,5 @@
 -- Worked examples of registering tenderers, computed.
-use Rattle.std.proofs.Common.{refl}
-use Rattle.office_base.specs.Rows.{row_at, row_put, row_drop}
-use Rattle.office_machine.specs.Worked.Registering.{RegisteringWorked}
+use Rattle.office_machine.proofs.Names.{refl, row_at, row_put, row_drop, RegisteringWorked}
 
 pub registering_worked : RegisteringWorked
 unfolding row_at row_put row_drop

@@ -1,7 +1,5 @@
 -- Worked examples of releases, computed.
-use Rattle.std.proofs.Common.{refl}
-use Rattle.office_base.specs.Rows.{row_at, row_put, row_drop}
-use Rattle.office_machine.specs.Worked.Releases.{ReleasesWorked}
+use Rattle.office_machine.proofs.Names.{refl, row_at, row_put, row_drop, ReleasesWorked}
 
 pub releases_worked : ReleasesWorked
 unfolding row_at row_put row_drop

@@ -1,7 +1,5 @@
 -- Worked examples of replacing and withdrawing sealed tenders, computed.
-use Rattle.std.proofs.Common.{refl}
-use Rattle.office_base.specs.Rows.{row_at, row_put, row_drop}
-use Rattle.office_machine.specs.Worked.Replacing.{ReplacingWorked}
+use Rattle.office_machine.proofs.Names.{refl, row_at, row_put, row_drop, ReplacingWorked}
 
 pub replacing_worked : ReplacingWorked
 unfolding row_at row_put row_drop

@@ -1,7 +1,5 @@
 -- Worked examples of rights, computed.
-use Rattle.std.proofs.Common.{refl}
-use Rattle.office_base.specs.Rows.{row_at, row_put, row_drop}
-use Rattle.office_machine.specs.Worked.Rights.{RightsWorked}
+use Rattle.office_machine.proofs.Names.{refl, row_at, row_put, row_drop, RightsWorked}
 
 pub rights_worked : RightsWorked
 unfolding row_at row_put row_drop

@@ -1,12 +1,5 @@
 -- Worked examples of sealed tenders, computed.
-use Rattle.std.specs.Prelude.{codes}
-use Rattle.std.proofs.Common.{refl}
-use Rattle.office_base.specs.Rows.{row_at, row_put, row_drop}
-use Rattle.office_machine.specs.Requests.{AreRequests}
-use Rattle.office_machine.specs.Seals.{SameButSeals}
-use Rattle.office_machine.specs.Worlds.{Same, Presented, Modified}
-use Rattle.office_machine.specs.Worked.Office.{means, office, security, setup}
-use Rattle.office_machine.specs.Worked.Seals.{SealsWorked, theirs, one, other}
+use Rattle.office_machine.proofs.Names.{codes, refl, row_at, row_put, row_drop, AreRequests, SameButSeals, Same, Presented, Modified, means, office, security, setup, SealsWorked, theirs, one, other}
 
 same_but_seals : SameButSeals means theirs (office setup) one other
 unfolding row_at row_put row_drop

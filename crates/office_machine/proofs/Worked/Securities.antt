@@ -1,7 +1,5 @@
 -- Worked examples of tender securities, computed.
-use Rattle.std.proofs.Common.{refl}
-use Rattle.office_base.specs.Rows.{row_at, row_put, row_drop}
-use Rattle.office_machine.specs.Worked.Securities.{SecuritiesWorked}
+use Rattle.office_machine.proofs.Names.{refl, row_at, row_put, row_drop, SecuritiesWorked}
 
 pub securities_worked : SecuritiesWorked
 unfolding row_at row_put row_drop

@@ -1,7 +1,5 @@
 -- Worked examples of signing, computed.
-use Rattle.std.proofs.Common.{refl}
-use Rattle.office_base.specs.Rows.{row_at, row_put, row_drop}
-use Rattle.office_machine.specs.Worked.Signing.{SigningWorked}
+use Rattle.office_machine.proofs.Names.{refl, row_at, row_put, row_drop, SigningWorked}
 
 pub signing_worked : SigningWorked
 unfolding row_at row_put row_drop

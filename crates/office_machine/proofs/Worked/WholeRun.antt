@@ -1,11 +1,5 @@
 -- A whole procurement, computed.
-use Rattle.std.specs.Prelude.{[]}
-use Rattle.std.proofs.Common.{refl}
-use Rattle.office_base.specs.Rows.{row_at, row_put, row_drop}
-use Rattle.office_base.specs.Tables.{no_tables}
-use Rattle.office_machine.specs.Requests.{AreRequests}
-use Rattle.office_machine.specs.Worked.Office.{means}
-use Rattle.office_machine.specs.Worked.WholeRun.{WholeRunWorked, run}
+use Rattle.office_machine.proofs.Names.{[], refl, row_at, row_put, row_drop, no_tables, AreRequests, means, WholeRunWorked, run}
 use Rattle.office_machine.proofs.Reached.{runs_reach}
 
 can_be_given : AreRequests means no_tables run

@@ -1,7 +1,5 @@
 -- Worked examples of late withdrawals, computed.
-use Rattle.std.proofs.Common.{refl}
-use Rattle.office_base.specs.Rows.{row_at, row_put, row_drop}
-use Rattle.office_machine.specs.Worked.Withdrawing.{WithdrawingWorked}
+use Rattle.office_machine.proofs.Names.{refl, row_at, row_put, row_drop, WithdrawingWorked}
 
 pub withdrawing_worked : WithdrawingWorked
 unfolding row_at row_put row_drop

@@ -1,36 +1,9 @@
 -- The replies of two worlds are alike.
-use Rattle.std.proofs.Common.{◌≡◌, ℕ, suc, ◌+◌, Bool, true, false, cond, ◌&&◌, List, [], ◌∷◌, length, filter, Option, Some, None, option_map, refl, sym, ◌∙◌, ap, subst}
-use Rattle.office_values.specs.Ids.{same_id}
-use Rattle.office_commands.specs.declared.command.Caller.{Caller}
-use Rattle.office_commands.specs.declared.command.Caller.TheVariants.{Public, Clerk, Tenderer}
-use Rattle.office_commands.specs.Callers.{is_by}
-use Rattle.office_commands.specs.Rights.{is_tenderer, may_look}
-use Rattle.office_commands.specs.declared.commands.Command.{Command}
+use Rattle.office_machine.proofs.Names.{◌≡◌, ℕ, suc, ◌+◌, Bool, true, false, cond, ◌&&◌, List, [], ◌∷◌, length, filter, Option, Some, None, option_map, refl, sym, ◌∙◌, ap, subst, same_id, Caller, Public, Clerk, Tenderer, is_by, is_tenderer, may_look, Command, Forbidden, NotYourTender, notice_of_envelope, late_of_envelope, is_late, is_opened, TendererRow, NoticeRow, LotRow, EnvelopeRow, SealRow, ClockRow, is_sealed_envelope, winner, Tables, find_envelope, notice_at, envelope_at, contract_at, envelopes_of_notice, envelopes_of_lot, lots_of_notice, awards_of_notice, late_at, Readings, ChosenTender, is_theirs, is_for_chosen_lot, AlikeRows, Pairs, AlikeOffices, SameBut, Same, Presented, Modified, OpensAlike, Query, query_kind_of, Reply, OpenedAll, Received, Awarded, Tender, Registry, Minutes, release_of, release_of_contract, left_of, modify_reply, winning, Withdrew, state_after, reply_for, Packages, tender_told, registered, register_told, minuted, is_read_envelope, minutes_told, own_tenders_told, package_told, shown, told, ButDigest, PackagesHideSeals, without_digest, ToldAlike, equal_ids, same_itself}
 use Rattle.office_commands.specs.declared.commands.Command.TheVariants as commands
-use Rattle.office_values.specs.declared.refusal.Refusal.TheVariants.{Forbidden, NotYourTender}
-use Rattle.office_base.specs.Parents.{notice_of_envelope, late_of_envelope}
-use Rattle.office_base.specs.Transitions.{is_late}
-use Rattle.office_base.specs.States.{is_opened}
 use Rattle.office_base.specs.declared.records.EnvelopeState.TheVariants as envelope_states
-use Rattle.office_base.specs.declared.records.TendererRow.{TendererRow}
-use Rattle.office_base.specs.declared.records.NoticeRow.{NoticeRow}
-use Rattle.office_base.specs.declared.records.LotRow.{LotRow}
-use Rattle.office_base.specs.declared.records.EnvelopeRow.{EnvelopeRow}
-use Rattle.office_base.specs.declared.records.SealRow.{SealRow}
-use Rattle.office_base.specs.declared.records.ClockRow.{ClockRow}
-use Rattle.tender_core.specs.Rules.Open.{is_sealed_envelope}
-use Rattle.award_core.specs.Rules.Award.{winner}
-use Rattle.office_base.specs.Tables.{Tables, find_envelope, notice_at, envelope_at, contract_at, envelopes_of_notice, envelopes_of_lot, lots_of_notice, awards_of_notice, late_at}
-use Rattle.office_machine.specs.Readings.{Readings}
-use Rattle.office_machine.specs.Worlds.{ChosenTender, is_theirs, is_for_chosen_lot, AlikeRows, Pairs, AlikeOffices, SameBut, Same, Presented, Modified, OpensAlike}
-use Rattle.office_commands.specs.declared.queries.Query.{Query}
 use Rattle.office_commands.specs.declared.queries.Query.TheVariants as queries
-use Rattle.office_commands.specs.Queries.{query_kind_of}
-use Rattle.office_machine.specs.Replies.{Reply, Refused, OpenedAll, Received, Awarded, OfContract, Tender, Registry, Minutes, release_of, release_of_contract, left_of, modify_reply, winning, Withdrew, state_after}
-use Rattle.office_machine.specs.Machine.{reply_for}
-use Rattle.office_machine.specs.Sights.{Packages, tender_told, registered, register_told, minuted, is_read_envelope, minutes_told, own_tenders_told, package_told, shown, told}
-use Rattle.office_machine.specs.Seals.{ButDigest, PackagesHideSeals, without_digest, ToldAlike}
-use Rattle.office_base.proofs.ExactKeys.{equal_ids, same_itself}
+use Rattle.office_machine.specs.Replies.{Refused, OfContract}
 use Rattle.office_machine.proofs.Worlds.TendersShown.{pairs-same, evaluation_same, others_own, own_but_digest}
 use Rattle.office_machine.proofs.Worlds.WorldsPut.{Alike, AlikeOptions, blind-option, pairs-filter}
 use Rattle.office_machine.proofs.Worlds.WorldsRows.{envelope_pair, lot_pairs, notice_pairs, pairs-winner}

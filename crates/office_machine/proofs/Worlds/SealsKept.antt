@@ -1,31 +1,10 @@
 -- Two runs that differ only in sealed bytes remain alike.
-use Rattle.std.proofs.Common.{◌≡◌, ℕ, Bool, true, false, not, ◌&&◌, List, [], ◌∷◌, Option, Some, None, is_some, option_map, ◌+◌, refl, sym, ◌∙◌, ap, subst}
-use Rattle.std.specs.Prelude.{option_and_then}
-use Rattle.office_values.specs.Ids.{same_id}
-use Rattle.office_base.specs.Rows.{holds_of}
-use Rattle.office_commands.specs.declared.command.Caller.{Caller}
-use Rattle.office_values.specs.declared.refusal.Refusal.{Refusal}
-use Rattle.office_values.specs.declared.refusal.Refusal.TheVariants.{Unavailable}
-use Rattle.office_commands.specs.declared.commands.Command.{Command}
+use Rattle.office_machine.proofs.Names.{◌≡◌, ℕ, Bool, true, false, not, ◌&&◌, List, [], ◌∷◌, Option, Some, None, is_some, option_map, ◌+◌, refl, sym, ◌∙◌, ap, subst, option_and_then, same_id, holds_of, Caller, Refusal, Unavailable, Command, EnvelopeRow, SealRow, published_for, releases_in, Tables, notice_at, find_seal, envelope_at, seal_at, after_puts, ReleaseRow, IsCommand, Means, Given, CanBeGiven, Reaches, time_of, refusal_of, effect, done, next, publication_puts, publication, ChosenTender, is_theirs, AlikeRows, Pairs, AlikeOffices, IsNext, SameBut, Same, Presented, Modified, OpensAlike, Demand, Asks, Looks, Request, given_by_request, reply_by, office_by, accepted_by, reply_to, office_after, accepted_with, IsDemand, AreRequests, Packages, ReleasesHideSeals, PackagesHideSeals, SameDemand, SameRequest, SameButSeals, ToldAlike, opens_it, demand_opens, is_opening, KnowAlike, AlikeUntilOpening, SealsAreKept, equal_ids, each_found}
 use Rattle.office_commands.specs.declared.commands.Command.TheVariants as commands
-use Rattle.office_base.specs.declared.records.EnvelopeRow.{EnvelopeRow}
-use Rattle.office_base.specs.declared.records.SealRow.{SealRow}
-use Rattle.office_machine.specs.Publications.{published_for}
-use Rattle.office_machine.specs.Counted.{releases_in}
-use Rattle.office_base.specs.Tables.{Tables, notice_at, find_seal, envelope_at, seal_at, after_puts}
-use Rattle.office_base.specs.declared.records.ReleaseRow.{ReleaseRow}
-use Rattle.office_commands.specs.Commands.{IsCommand}
-use Rattle.office_machine.specs.Machine.{Means, Given, CanBeGiven, Reaches, time_of, refusal_of, effect, done, next, publication_puts, publication}
-use Rattle.office_machine.specs.Worlds.{ChosenTender, is_theirs, AlikeRows, Pairs, AlikeOffices, IsNext, SameBut, Same, Presented, Modified, OpensAlike}
-use Rattle.office_machine.specs.Requests.{Demand, Asks, Looks, Request, given_by_request, reply_by, office_by, accepted_by, reply_to, office_after, accepted_with, IsDemand, AreRequests}
 use Rattle.office_machine.specs.Replies.{Refused}
-use Rattle.office_machine.specs.Sights.{Packages}
-use Rattle.office_machine.specs.Seals.{ReleasesHideSeals, PackagesHideSeals, SameDemand, SameRequest, SameButSeals, ToldAlike, opens_it, demand_opens, is_opening, KnowAlike, AlikeUntilOpening, SealsAreKept}
-use Rattle.office_base.proofs.ExactKeys.{equal_ids}
 use Rattle.office_machine.proofs.Reached.{steps_reach}
 use Rattle.office_machine.proofs.FateLaws.FatesKept.{all_kept}
 use Rattle.office_machine.proofs.FateLaws.NextReceipt.{no_envelope_yet, nothing_yet}
-use Rattle.office_base.proofs.RowLaws.Found.{each_found}
 use Rattle.office_machine.proofs.Rows.Keyed as keyed
 use Rattle.office_machine.proofs.FateLaws.Seen.{after-append}
 use Rattle.office_machine.proofs.Rows.SortedTables.{sorted}

@@ -1,26 +1,7 @@
 -- In two worlds the evaluation is the same. A tenderer's own tenders differ at most in their digests, which nobody else sees.
-use Rattle.std.proofs.Common.{◌≡◌, ℕ, Bool, true, false, cond, ◌&&◌, ◌||◌, List, [], ◌∷◌, ◌++◌, map, filter, Option, Some, None, unwrap_or, refl, ◌∙◌, ap}
-use Rattle.std.specs.List.{flat_map}
+use Rattle.office_machine.proofs.Names.{◌≡◌, ℕ, Bool, true, false, cond, ◌&&◌, ◌||◌, List, [], ◌∷◌, ◌++◌, map, filter, Option, Some, None, unwrap_or, refl, ◌∙◌, ap, flat_map, same_id, NotOpened, Caller, Tenderer, is_clerk, is_read, is_opened, NoticeRow, LotRow, EnvelopeRow, SealRow, AwardRow, Tables, of_tenderer, envelopes_of_lot, lowest_in, ChosenTender, is_theirs, is_for_chosen_lot, Pairs, OwnTendersSeen, EvaluationSeen, evaluated_tender, evaluated_tenders, awards_of_lot, has_outcome, lot_told, evaluated_lot, evaluation_told, own_tender, own_of_lot, own_tenders_told, bare_tender, without_digest, equal_ids}
 use mathlib.Core.Path.{fun_ext}
-use Rattle.office_values.specs.Ids.{same_id}
-use Rattle.office_values.specs.declared.refusal.Refusal.TheVariants.{NotOpened}
-use Rattle.office_commands.specs.declared.command.Caller.{Caller}
-use Rattle.office_commands.specs.declared.command.Caller.TheVariants.{Tenderer}
-use Rattle.office_commands.specs.Rights.{is_clerk}
-use Rattle.office_base.specs.States.{is_read, is_opened}
-use Rattle.office_base.specs.declared.records.NoticeRow.{NoticeRow}
-use Rattle.office_base.specs.declared.records.LotRow.{LotRow}
-use Rattle.office_base.specs.declared.records.EnvelopeRow.{EnvelopeRow}
-use Rattle.office_base.specs.declared.records.SealRow.{SealRow}
-use Rattle.office_base.specs.declared.records.AwardRow.{AwardRow}
-use Rattle.office_base.specs.Tables.{Tables, of_tenderer, envelopes_of_lot}
-use Rattle.award_core.specs.Best.{lowest_in}
-use Rattle.office_machine.specs.Worlds.{ChosenTender, is_theirs, is_for_chosen_lot, Pairs}
-use Rattle.office_machine.specs.Replies.{Refused, OwnTendersSeen, EvaluationSeen}
-use Rattle.office_machine.specs.Evaluation.{evaluated_tender, evaluated_tenders, awards_of_lot, has_outcome, lot_told, evaluated_lot, evaluation_told}
-use Rattle.office_machine.specs.Sights.{own_tender, own_of_lot, own_tenders_told}
-use Rattle.office_machine.specs.Seals.{bare_tender, without_digest}
-use Rattle.office_base.proofs.ExactKeys.{equal_ids}
+use Rattle.office_machine.specs.Replies.{Refused}
 use Rattle.office_machine.proofs.Worlds.WorldsPut.{Alike, IsBlind, blind, pairs-filter}
 use Rattle.office_machine.proofs.Worlds.WorldsRows.{lot_pairs, pairs-lowest}
 

@@ -1,24 +1,8 @@
 -- If no differing tender is opened, two runs are alike to their end.
-use Rattle.std.proofs.Common.{◌≡◌, ℕ, ◌+◌, Bool, true, false, cond, List, [], ◌∷◌, Option, Some, None, refl, sym, ◌∙◌, ap, subst, inl, inr}
-use Rattle.office_values.specs.Ids.{same_id}
-use Rattle.office_base.specs.Tables.{same_number, Tables, envelope_at, seal_at}
-use Rattle.office_base.specs.Rows.{holds_of}
-use Rattle.office_values.specs.declared.refusal.Refusal.{Refusal}
+use Rattle.office_machine.proofs.Names.{◌≡◌, ℕ, ◌+◌, Bool, true, false, cond, List, [], ◌∷◌, Option, Some, None, refl, sym, ◌∙◌, ap, subst, inl, inr, same_id, same_number, Tables, envelope_at, seal_at, holds_of, Refusal, EnvelopeState, EnvelopeRow, SealRow, is_sealed, is_sealed_envelope, Means, Given, Reaches, refusal_of, Reception, received_by, received_at, fate_of_tender, fate_after, tender_decided, is_of_notice, is_kept, ChosenTender, is_theirs, AlikeOffices, Demand, Asks, Looks, Request, given_by_request, accepted_by, demand_accepted, office_after, accepted_with, all_accepted, AreRequests, Packages, ReleasesHideSeals, PackagesHideSeals, SameButSeals, AlikeThroughout, bytes_of, is_gone, DifferingAreGone, WholeRunsAreAlike, each_found}
 use Rattle.office_commands.specs.declared.commands.Command.TheVariants as commands
 use Rattle.office_base.specs.declared.records.EnvelopeState.TheVariants as envelope_states
-use Rattle.office_base.specs.declared.records.EnvelopeState.{EnvelopeState}
-use Rattle.office_base.specs.declared.records.EnvelopeRow.{EnvelopeRow}
-use Rattle.office_base.specs.declared.records.SealRow.{SealRow}
-use Rattle.office_base.specs.States.{is_sealed}
-use Rattle.tender_core.specs.Rules.Open.{is_sealed_envelope}
-use Rattle.office_machine.specs.Machine.{Means, Given, Reaches, refusal_of}
-use Rattle.office_machine.specs.Fates.{Reception, received_by, received_at, fate_of_tender, fate_after, tender_decided, is_of_notice, is_kept}
-use Rattle.office_machine.specs.Worlds.{ChosenTender, is_theirs, AlikeOffices}
-use Rattle.office_machine.specs.Requests.{Demand, Asks, Looks, Request, given_by_request, accepted_by, demand_accepted, office_after, accepted_with, all_accepted, AreRequests}
-use Rattle.office_machine.specs.Sights.{Packages}
-use Rattle.office_machine.specs.Seals.{ReleasesHideSeals, PackagesHideSeals, SameButSeals, AlikeThroughout, bytes_of, is_gone, DifferingAreGone, WholeRunsAreAlike}
 use Rattle.office_machine.proofs.FateLaws.FatesKept.{all_kept}
-use Rattle.office_base.proofs.RowLaws.Found.{each_found}
 use Rattle.office_machine.proofs.Rows.Keyed as keyed
 use Rattle.office_machine.proofs.FateLaws.NextReceipt.{came_old}
 use Rattle.office_machine.proofs.Rows.SortedTables.{sorted}

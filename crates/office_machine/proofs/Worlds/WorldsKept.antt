@@ -1,24 +1,7 @@
 -- Two worlds remain alike.
-use Rattle.std.proofs.Common.{◌≡◌, ℕ, Bool, true, false, not, cond, List, [], ◌∷◌, filter, Option, Some, None, is_some, refl, sym, ◌∙◌, ap}
-use Rattle.std.specs.List.{AllByRecursion}
-use Rattle.std.specs.Ordering.{nat_cmp}
-use Rattle.office_values.specs.Ids.{same_id}
-use Rattle.office_base.specs.Rows.{holds_of}
-use Rattle.tender_core.specs.Rules.Open.{is_sealed_envelope}
-use Rattle.office_commands.specs.declared.command.Caller.{Caller}
-use Rattle.office_values.specs.declared.refusal.Refusal.TheVariants.{Forbidden}
-use Rattle.office_base.specs.Rules.{first_of}
-use Rattle.office_commands.specs.declared.commands.Command.{Command}
-use Rattle.office_machine.specs.Machine.{may_give, Given, time_of, effect}
-use Rattle.office_machine.specs.Readings.{Readings}
-use Rattle.office_base.specs.declared.records.EnvelopeRow.{EnvelopeRow}
-use Rattle.office_base.specs.declared.records.SealRow.{SealRow}
-use Rattle.office_base.specs.Tables.{Tables, IsSorted, envelope_key, envelope_at, seal_at, after_puts}
+use Rattle.office_machine.proofs.Names.{◌≡◌, ℕ, Bool, true, false, not, cond, List, [], ◌∷◌, filter, Option, Some, None, is_some, refl, sym, ◌∙◌, ap, AllByRecursion, nat_cmp, same_id, holds_of, is_sealed_envelope, Caller, Forbidden, first_of, Command, may_give, Given, time_of, effect, Readings, EnvelopeRow, SealRow, Tables, IsSorted, envelope_key, envelope_at, seal_at, after_puts, ChosenTender, is_theirs, AlikeRows, Pairs, AlikeOffices, OpensAlike, AcceptedAlike, each_found, of_found, found_key}
 use Rattle.office_commands.specs.declared.commands.Command.TheVariants as commands
-use Rattle.office_machine.specs.Worlds.{ChosenTender, is_theirs, AlikeRows, Pairs, AlikeOffices, OpensAlike, AcceptedAlike}
 use Rattle.office_machine.proofs.Rows.Keyed.{all_found}
-use Rattle.office_base.proofs.RowLaws.Found.{each_found, of_found}
-use Rattle.office_base.proofs.RowLaws.Keyed.{found_key}
 use Rattle.office_machine.proofs.Rows.Keyed as keyed
 use Rattle.office_machine.proofs.Parents.ParentsPut.{grows-puts}
 use Rattle.office_machine.proofs.Passed.{witness}

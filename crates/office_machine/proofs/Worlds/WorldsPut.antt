@@ -1,21 +1,7 @@
 -- Two worlds remain alike under puts that are alike.
-use Rattle.std.proofs.Common.{◌≡◌, ℕ, Bool, true, false, cond, ◌||◌, List, [], ◌∷◌, ◌++◌, map, filter, Option, Some, None, refl, sym, ◌∙◌, ap, subst}
-use Rattle.std.specs.List.{list_any, AllByRecursion}
-use Rattle.std.specs.Ordering.{nat_cmp, eq_by_cmp}
-use Rattle.std.specs.declared.cmp.Ordering.{Ordering}
-use Rattle.std.specs.declared.cmp.Ordering.TheVariants.{Less, Equal, Greater}
-use Rattle.office_base.specs.Rows.{by_order, row_at, row_put, IsInOrder}
-use Rattle.office_base.specs.declared.records.EnvelopeRow.{EnvelopeRow}
-use Rattle.office_base.specs.declared.records.SealRow.{SealRow}
-use Rattle.office_base.specs.Tables.{Tables, IsSorted, seal_key, find_envelope, find_seal, put_envelope, put_seal, drop_seal, seal_at, after_put, after_puts}
-use Rattle.office_base.specs.declared.puts.Put.{Put}
+use Rattle.office_machine.proofs.Names.{◌≡◌, ℕ, Bool, true, false, cond, ◌||◌, List, [], ◌∷◌, ◌++◌, map, filter, Option, Some, None, refl, sym, ◌∙◌, ap, subst, list_any, AllByRecursion, nat_cmp, eq_by_cmp, Ordering, Less, Equal, Greater, by_order, row_at, row_put, IsInOrder, EnvelopeRow, SealRow, Tables, IsSorted, seal_key, find_envelope, find_seal, put_envelope, put_seal, drop_seal, seal_at, after_put, after_puts, Put, put_if, ChosenTender, is_theirs, AlikeRows, Pairs, row_at-row_drop, sorted-put, row_at-row_put}
 use Rattle.office_base.specs.declared.puts.Put.TheVariants as puts
-use Rattle.office_base.specs.Transitions.{put_if}
-use Rattle.office_machine.specs.Worlds.{ChosenTender, is_theirs, AlikeRows, Pairs}
 use Rattle.office_machine.proofs.Rows.Keyed as keyed
-use Rattle.office_base.proofs.RowLaws.Drops.{row_at-row_drop}
-use Rattle.office_base.proofs.SortedTables.{sorted-put}
-use Rattle.office_base.proofs.RowLaws.{row_at-row_put}
 
 -- two rows are alike, and `W` says which are of the chosen tenderer for the chosen lot
 pub record Alike (th : ChosenTender) (W : ℕ → Bool) (e e' : EnvelopeRow) : Type 0 where

@@ -1,13 +1,5 @@
 -- In two worlds the tenders of a lot, of a notice and of a receipt are alike, and so is the best one.
-use Rattle.std.proofs.Common.{◌≡◌, ℕ, Bool, true, false, cond, List, [], ◌∷◌, Option, Some, None, unwrap_or, refl, sym, ◌∙◌, subst, ◌&&◌}
-use Rattle.office_values.specs.Ids.{same_id}
-use Rattle.office_base.specs.Tables.{find_envelope, Tables, envelope_at, envelopes_of_notice, envelopes_of_lot}
-use Rattle.office_base.specs.declared.records.EnvelopeRow.{EnvelopeRow}
-use Rattle.office_base.specs.declared.records.NoticeRow.{NoticeRow}
-use Rattle.office_base.specs.declared.records.AwardRow.{AwardRow}
-use Rattle.office_base.specs.Parents.{envelope_of_award}
-use Rattle.award_core.specs.Rules.Award.{weight_in, is_admissible, price_of, lesser, lowest_price, is_better, better, best_with, winner}
-use Rattle.office_machine.specs.Worlds.{ChosenTender, Pairs}
+use Rattle.office_machine.proofs.Names.{◌≡◌, ℕ, Bool, true, false, cond, List, [], ◌∷◌, Option, Some, None, unwrap_or, refl, sym, ◌∙◌, subst, ◌&&◌, same_id, find_envelope, Tables, envelope_at, envelopes_of_notice, envelopes_of_lot, EnvelopeRow, NoticeRow, AwardRow, envelope_of_award, weight_in, is_admissible, price_of, lesser, lowest_price, is_better, better, best_with, winner, ChosenTender, Pairs}
 use Rattle.office_machine.proofs.Worlds.WorldsPut.{Alike, AlikeOptions, pairs-filter, blind, pairs-found}
 
 module _ (th : ChosenTender) (W : ℕ → Bool) (s : Tables) (es' : List EnvelopeRow) (all : Pairs (Alike th W) s.envelopes es') where

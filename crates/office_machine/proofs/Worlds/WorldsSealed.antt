@@ -1,32 +1,8 @@
 -- A tender that is submitted or replaced with other bytes leaves two worlds alike.
-use Rattle.std.proofs.Common.{◌≡◌, ℕ, ◌+◌, Bool, true, false, cond, not, ◌&&◌, List, [], ◌∷◌, ◌++◌, length, Option, Some, None, is_some, refl, sym, ◌∙◌, ap, subst}
-use Rattle.std.specs.FinMap.{nat_cmp-IsAntisymmetric}
-use Rattle.std.specs.Cmp.{nat_cmp_total}
-use Rattle.std.specs.List.{AllByRecursion}
-use Rattle.office_values.specs.Ids.{same_id}
-use Rattle.office_base.specs.Tables.{same_number, Tables, IsSorted, find_envelope, find_seal, notice_at, envelope_at, seal_at, after_put, after_puts}
-use Rattle.office_base.specs.Rows.{holds_of}
-use Rattle.office_commands.specs.declared.command.Caller.{Caller}
-use Rattle.office_commands.specs.declared.command.Caller.TheVariants.{Tenderer}
-use Rattle.office_commands.specs.declared.tender.NamedSecurity.{NamedSecurity}
-use Rattle.office_values.specs.declared.refusal.Refusal.TheVariants.{Forbidden}
-use Rattle.office_base.specs.Rules.{first_of}
-use Rattle.office_base.specs.Transitions.{is_in_time, receipt_clock, put_if}
-use Rattle.office_commands.specs.declared.commands.Command.{Command}
-use Rattle.office_machine.specs.Machine.{may_give, Given, time_of, command_tests, effect, refusal_of}
-use Rattle.office_machine.specs.Readings.{Readings}
+use Rattle.office_machine.proofs.Names.{◌≡◌, ℕ, ◌+◌, Bool, true, false, cond, not, ◌&&◌, List, [], ◌∷◌, ◌++◌, length, Option, Some, None, is_some, refl, sym, ◌∙◌, ap, subst, nat_cmp-IsAntisymmetric, nat_cmp_total, AllByRecursion, same_id, same_number, Tables, IsSorted, find_envelope, find_seal, notice_at, envelope_at, seal_at, after_put, after_puts, holds_of, Caller, Tenderer, NamedSecurity, Forbidden, first_of, is_in_time, receipt_clock, put_if, Command, may_give, Given, time_of, command_tests, effect, refusal_of, Readings, EnvelopeRow, SealRow, Put, received, seal_puts, security_put, is_anothers, replacing, withdrawn, modify_puts, ChosenTender, is_for_chosen_lot, is_theirs, AlikeRows, Pairs, IsNext, SameBut, Same, Presented, Modified, AcceptedAlike, StepsStayAlike, equal_keys, equal_ids, same_itself, each_found, own_key}
 use Rattle.office_commands.specs.declared.commands.Command.TheVariants as commands
-use Rattle.office_base.specs.declared.records.EnvelopeRow.{EnvelopeRow}
-use Rattle.office_base.specs.declared.records.SealRow.{SealRow}
-use Rattle.office_base.specs.declared.puts.Put.{Put}
 use Rattle.office_base.specs.declared.puts.Put.TheVariants as puts
-use Rattle.tender_core.specs.Rules.Present.{received, seal_puts, security_put}
-use Rattle.tender_core.specs.Rules.Modify.{is_anothers, replacing, withdrawn, modify_puts}
-use Rattle.office_machine.specs.Worlds.{ChosenTender, is_for_chosen_lot, is_theirs, AlikeRows, Pairs, IsNext, SameBut, Same, Presented, Modified, AcceptedAlike, StepsStayAlike}
-use Rattle.office_base.proofs.ExactKeys.{equal_keys, equal_ids, same_itself}
 use Rattle.office_machine.proofs.Rows.Keyed.{found_put}
-use Rattle.office_base.proofs.RowLaws.Found.{each_found}
-use Rattle.office_base.proofs.RowLaws.Keyed.{own_key}
 use Rattle.office_machine.proofs.Rows.Keyed as keyed
 use Rattle.office_machine.proofs.Parents.ParentsPut.{grows-puts}
 use Rattle.office_machine.proofs.Passed.{none_holds, allowed_by}

@@ -1,27 +1,5 @@
 -- In two worlds a command has the same refusal, and leaves them alike.
-use Rattle.std.proofs.Common.{◌≡◌, ℕ, ◌+◌, Bool, false, List, filter, Option, refl, [], None}
-use Rattle.std.specs.List.{AllByRecursion}
-use Rattle.office_commands.specs.declared.command.Caller.{Caller}
-use Rattle.office_commands.specs.declared.commands.Command.{Command}
-use Rattle.office_commands.specs.declared.commands.Command.TheVariants.{Open, Present, Modify, Withdraw, Examine, Award}
-use Rattle.office_base.specs.Joined.{free_in}
-use Rattle.office_base.specs.declared.records.LineRow.{LineRow}
-use Rattle.office_base.specs.Tables.{find_seal, seal_at, find_envelope, Tables, notice_at, lot_at, envelope_at, envelopes_of_notice, envelopes_of_lot}
-use Rattle.office_base.specs.declared.records.SealRow.{SealRow}
-use Rattle.office_base.specs.declared.records.EnvelopeRow.{EnvelopeRow}
-use Rattle.office_base.specs.Rows.{holds_of}
-use Rattle.office_base.specs.declared.records.NoticeRow.{NoticeRow}
-use Rattle.office_base.specs.declared.records.LotRow.{LotRow}
-use Rattle.office_base.specs.Parents.{notice_of_envelope, lot_of_envelope, line_of_lot, late_of_envelope}
-use Rattle.tender_core.specs.Rules.Present.{is_sealed_by}
-use Rattle.tender_core.specs.Rules.Modify.{modify_tests}
-use Rattle.tender_core.specs.Rules.Withdraw.{withdraw_tests}
-use Rattle.tender_core.specs.Rules.Open.{is_sealed_envelope}
-use Rattle.award_core.specs.Rules.Award.{reserved_in, is_admissible, isnt_examined, is_above, winner, award_tests}
-use Rattle.award_core.specs.Rules.Examine.{examine_tests}
-use Rattle.office_machine.specs.Worlds.{ChosenTender, Pairs}
-use Rattle.office_machine.specs.Readings.{Readings}
-use Rattle.office_machine.specs.Machine.{tests_for, puts_for}
+use Rattle.office_machine.proofs.Names.{◌≡◌, ℕ, ◌+◌, Bool, false, List, filter, Option, refl, [], None, AllByRecursion, Caller, Command, Open, Present, Modify, Withdraw, Examine, Award, free_in, LineRow, find_seal, seal_at, find_envelope, Tables, notice_at, lot_at, envelope_at, envelopes_of_notice, envelopes_of_lot, SealRow, EnvelopeRow, holds_of, NoticeRow, LotRow, notice_of_envelope, lot_of_envelope, line_of_lot, late_of_envelope, is_sealed_by, modify_tests, withdraw_tests, is_sealed_envelope, reserved_in, is_admissible, isnt_examined, is_above, winner, award_tests, examine_tests, ChosenTender, Pairs, Readings, tests_for, puts_for}
 use Rattle.office_machine.proofs.Worlds.WorldsPut.{Alike, PutPair, pairs-any, blind-option}
 use Rattle.office_machine.proofs.Worlds.WorldsRows.{pairs-winner, envelope_pair, lot_pairs}
 

@@ -1,18 +1,6 @@
 -- Over any tables, a change of a contract makes no missing parent of a row, and replaces no row of another owner.
-use Rattle.std.specs.Prelude.{max, ℕ, ◌+◌, ◌-◌, false, ◌≡◌, List, Option, Some, None}
-use Rattle.std.proofs.Common.{refl}
-use Rattle.std.specs.List.{list_any}
-use Rattle.office_base.proofs.RowLaws.Keyed.{found_key}
-use Rattle.office_base.specs.Parents.{notice_of_contract, lot_of_contract, line_of_lot}
-use Rattle.office_base.specs.Tables.{Tables, contract_at, line_at, entries_of_contract}
-use Rattle.office_base.specs.Transitions.{with_next_release}
+use Rattle.office_machine.proofs.Names.{max, ℕ, ◌+◌, ◌-◌, false, ◌≡◌, List, Option, Some, None, refl, list_any, found_key, notice_of_contract, lot_of_contract, line_of_lot, Tables, contract_at, line_at, entries_of_contract, with_next_release, ClockRow, ContractRow, LineRow, NoticeRow, amend_contract_puts, amend_contract_tests, amend_contract_rows, is_taken, line_after, change_row, ChangeKind, AmendContract}
 use Rattle.office_base.specs.declared.puts.Put.TheVariants as puts
-use Rattle.office_base.specs.declared.records.ClockRow.{ClockRow}
-use Rattle.office_base.specs.declared.records.ContractRow.{ContractRow}
-use Rattle.office_base.specs.declared.records.LineRow.{LineRow}
-use Rattle.office_base.specs.declared.records.NoticeRow.{NoticeRow}
-use Rattle.award_core.specs.Rules.AmendContract.{amend_contract_puts, amend_contract_tests, amend_contract_rows, is_taken, line_after, change_row}
-use Rattle.office_commands.specs.declared.contract.ChangeKind.{ChangeKind}
 use Rattle.office_commands.specs.declared.contract.ChangeKind.TheVariants as change_kinds
 use Rattle.office_machine.proofs.NoParents.Gentle.{AreGentle, IsGentle}
 use Rattle.office_machine.proofs.Passed.{none_holds}
@@ -20,7 +8,6 @@ use Rattle.office_machine.proofs.Rows.Keyed as keyed
 use Rattle.office_machine.proofs.NoParents.Gentle.{PutsGently}
 use Rattle.office_machine.proofs.NoParents.Kept.{notice_kept, line_of, line_found}
 use Rattle.office_machine.proofs.NoParents.New.{new_entry}
-use Rattle.office_commands.specs.declared.commands.Command.TheVariants.{AmendContract}
 
 line_changed : (s : Tables) (k : List ℕ) (kind : ChangeKind) (amount : ℕ) (r : LineRow) → line_at k s ≡ Some r → IsGentle s (puts.Line (line_after kind amount r))
 line_changed s k change_kinds.Raise amount r is = line_of s k r (r.free - amount) is

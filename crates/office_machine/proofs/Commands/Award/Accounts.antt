@@ -1,41 +1,14 @@
 -- An award keeps the accounts.
-use Rattle.std.proofs.Common.{◌≡◌, ℕ, ◌+◌, ◌-◌, ◌≤◌, Bool, true, false, cond, not, ◌&&◌, List, ◌∷◌, Option, Some, None, refl, sym, ◌∙◌, ap, subst, ◌⊎◌, inl, inr, arith, nat_le, ◌<◌}
-use Rattle.std.specs.FinMap.{nat_cmp-IsAntisymmetric}
-use Rattle.std.specs.List.{AllByRecursion}
-use Rattle.std.specs.Ordering.{nat_cmp, eq_by_cmp}
-use Rattle.office_values.specs.Ids.{same_id}
-use Rattle.office_commands.specs.declared.command.Caller.{Caller}
-use Rattle.office_values.specs.declared.refusal.Refusal.{Refusal}
-use Rattle.office_base.specs.Rows.{holds_of}
-use Rattle.office_base.specs.Rules.{first_of}
-use Rattle.office_base.specs.Transitions.{with_next_release, clock_put, securities_returned}
-use Rattle.office_base.specs.declared.records.LineRow.{LineRow}
-use Rattle.office_base.specs.declared.records.NoticeRow.{NoticeRow}
-use Rattle.office_base.specs.declared.records.LotRow.{LotRow}
-use Rattle.office_base.specs.Tables.{Tables, line_at, notice_at, lot_at, find_line, put_line, find_lot, after_puts, lot_cmp, find_award, put_award, put_lot, envelopes_of_lot, securities_of_lot}
-use Rattle.office_base.specs.Joined.{free_in}
-use Rattle.office_base.specs.Parents.{line_of_lot}
-use Rattle.office_machine.specs.Machine.{Given, time_of, command_tests, effect}
-use Rattle.office_machine.specs.Readings.{Readings}
-use Rattle.office_machine.specs.Moves.{Move, Free, Reserved, moves, reserved_for, line_in, same_lot, price_after, move_of_award}
+use Rattle.office_machine.proofs.Names.{◌≡◌, ℕ, ◌+◌, ◌-◌, ◌≤◌, Bool, true, false, cond, not, ◌&&◌, List, ◌∷◌, Option, Some, None, refl, sym, ◌∙◌, ap, subst, ◌⊎◌, inl, inr, arith, nat_le, ◌<◌, nat_cmp-IsAntisymmetric, AllByRecursion, nat_cmp, eq_by_cmp, same_id, Caller, Refusal, holds_of, first_of, with_next_release, clock_put, securities_returned, LineRow, NoticeRow, LotRow, Tables, line_at, notice_at, lot_at, find_line, put_line, find_lot, after_puts, lot_cmp, find_award, put_award, put_lot, envelopes_of_lot, securities_of_lot, free_in, line_of_lot, Given, time_of, command_tests, effect, Readings, Move, Free, Reserved, moves, reserved_for, line_in, same_lot, price_after, move_of_award, other_keys, equal_ids, same_itself, found_key, own_key, nat_tests, AwardRow, EnvelopeRow, SecurityRow, is_open, is_undecided, is_active, LotState, price_of, winner, is_above, reserved_in, unsuccessful, awarded, award_row, decision_puts, award_puts}
 use Rattle.office_commands.specs.declared.commands.Command.TheVariants as commands
 use Rattle.office_base.specs.declared.puts.Put.TheVariants as puts
 use Rattle.office_machine.proofs.Accounts.Aside.{kept_aside, aside-securities}
-use Rattle.office_base.proofs.ExactKeys.{other_keys, equal_ids, same_itself}
 use Rattle.office_machine.proofs.Rows.Keyed.{found, found_put, elsewhere, still_there}
-use Rattle.office_base.proofs.RowLaws.Keyed.{found_key, own_key}
 use Rattle.office_machine.proofs.Rows.Keyed as keyed
 use Rattle.office_machine.proofs.Accounts.Kept.{AccountsStand, PotsAre, LotIs, AwardIs, is_awarded}
 use Rattle.office_machine.proofs.Accounts.LotChanged.{lots_are, award_is, back, over, after_line}
 use Rattle.office_machine.proofs.Passed.{none_holds, not_false, at_least, witness, test_of}
-use Rattle.std.proofs.lemmas.Bool.Decides.{nat_tests}
-use Rattle.office_base.specs.declared.records.AwardRow.{AwardRow}
-use Rattle.office_base.specs.declared.records.EnvelopeRow.{EnvelopeRow}
-use Rattle.office_base.specs.declared.records.SecurityRow.{SecurityRow}
-use Rattle.office_base.specs.States.{is_open, is_undecided, is_active}
-use Rattle.office_base.specs.declared.records.LotState.{LotState}
 use Rattle.office_base.specs.declared.records.LotState.TheVariants as lot_states
-use Rattle.award_core.specs.Rules.Award.{price_of, winner, is_above, reserved_in, unsuccessful, awarded, award_row, decision_puts, award_puts}
 
 open_too : (l : LotState) → is_undecided l ≡ true → is_open l ≡ true
 open_too lot_states.Undecided e = refl

@@ -1,43 +1,13 @@
 -- An award keeps the fates, with a winner or without one.
-use Rattle.std.specs.Prelude.{◌≡◌, ℕ, ◌+◌, Bool, true, false, cond, not, ◌&&◌, List, [], ◌∷◌, map, filter, Option, Some, None, option_map, is_some, max, unwrap_or}
-use Rattle.std.proofs.Common.{refl, sym, ap, ◌∙◌, subst}
-use Rattle.std.specs.List.{AllByRecursion}
-use Rattle.std.specs.Cmp.{nat_cmp_total}
-use Rattle.std.specs.Ordering.{nat_cmp, eq_by_cmp}
-use Rattle.office_values.specs.Ids.{same_id}
-use Rattle.office_commands.specs.declared.command.Caller.{Caller}
-use Rattle.office_base.specs.Readings.{is_priced}
-use Rattle.office_commands.specs.declared.commands.Command.TheVariants.{Award}
-use Rattle.office_values.specs.declared.refusal.Refusal.{Refusal}
-use Rattle.office_base.specs.declared.records.LineRow.{LineRow}
-use Rattle.office_base.specs.declared.records.NoticeRow.{NoticeRow}
-use Rattle.office_base.specs.declared.records.LotRow.{LotRow}
-use Rattle.office_base.specs.declared.records.EnvelopeRow.{EnvelopeRow}
-use Rattle.office_base.specs.declared.records.SecurityRow.{SecurityRow}
-use Rattle.office_base.specs.declared.records.AwardRow.{AwardRow}
+use Rattle.office_machine.proofs.Names.{◌≡◌, ℕ, ◌+◌, Bool, true, false, cond, not, ◌&&◌, List, [], ◌∷◌, map, filter, Option, Some, None, option_map, is_some, max, unwrap_or, refl, sym, ap, ◌∙◌, subst, AllByRecursion, nat_cmp_total, nat_cmp, eq_by_cmp, same_id, Caller, is_priced, Award, Refusal, LineRow, NoticeRow, LotRow, EnvelopeRow, SecurityRow, AwardRow, EnvelopeState, Put, is_read, first_of, clock_put, with_next_release, is_held_security, returned, is_admissible, is_responsive, lowest_price, winner, unsuccessful, awarded, award_row, decision_puts, award_tests, award_puts, Tables, lot_cmp, lot_key, award_key, security_key, award_at, lot_at, notice_at, line_at, envelope_at, seal_at, security_at, envelopes_of_lot, securities_of_lot, after_puts, line_of_lot, Given, Readings, received_at, is_received_for, equal_ids, row_at-row_put, each_found, found_key}
 use Rattle.office_base.specs.declared.records.EnvelopeState.TheVariants as envelope
-use Rattle.office_base.specs.declared.records.EnvelopeState.{EnvelopeState}
 use Rattle.office_base.specs.declared.records.SecurityState.TheVariants as security
 use Rattle.office_base.specs.declared.records.AwardState.TheVariants as award
 use Rattle.office_base.specs.declared.records.LotState.TheVariants as lot
 use Rattle.office_base.specs.declared.records.NoticeState.TheVariants as notice
 use Rattle.office_base.specs.declared.puts.Put.TheVariants as puts
-use Rattle.office_base.specs.declared.puts.Put.{Put}
-use Rattle.office_base.specs.States.{is_read}
-use Rattle.office_base.specs.Rules.{first_of}
-use Rattle.office_base.specs.Transitions.{clock_put, with_next_release, is_held_security, returned}
-use Rattle.award_core.specs.Rules.Award.{is_admissible, is_responsive, lowest_price, winner, unsuccessful, awarded, award_row, decision_puts, award_tests, award_puts}
-use Rattle.office_base.specs.Tables.{Tables, lot_cmp, lot_key, award_key, security_key, award_at, lot_at, notice_at, line_at, envelope_at, seal_at, security_at, envelopes_of_lot, securities_of_lot, after_puts}
-use Rattle.office_base.specs.Parents.{line_of_lot}
-use Rattle.office_machine.specs.Machine.{Given}
-use Rattle.office_machine.specs.Readings.{Readings}
-use Rattle.office_machine.specs.Fates.{received_at, is_received_for}
-use Rattle.office_base.proofs.ExactKeys.{equal_ids}
 use Rattle.office_machine.proofs.Passed.{none_holds, not_false}
-use Rattle.office_base.proofs.RowLaws.{row_at-row_put}
 use Rattle.office_machine.proofs.Rows.RowsChanged.{rows_put}
-use Rattle.office_base.proofs.RowLaws.Found.{each_found}
-use Rattle.office_base.proofs.RowLaws.Keyed.{found_key}
 use Rattle.office_machine.proofs.FateLaws.Views.{View, IsSound, AwardFits, Change, after_change, sound_changed}
 use Rattle.office_machine.proofs.FateLaws.Added.{added, sound_award}
 use Rattle.office_machine.proofs.FateLaws.Steps.{both_true}

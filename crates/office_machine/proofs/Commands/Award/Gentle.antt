@@ -1,22 +1,10 @@
 -- Over any tables, an award makes no missing parent of a row, and replaces no row of another owner.
-use Rattle.std.specs.Prelude.{max, ℕ, ◌+◌, ◌-◌, false, ◌&&◌, ◌||◌, ◌≡◌, List, Option, Some, None, is_some}
-use Rattle.std.proofs.Common.{refl}
-use Rattle.office_base.specs.Parents.{line_of_lot}
-use Rattle.office_base.specs.Tables.{Tables, IsSorted, award_at, line_at, lot_at, notice_at, envelopes_of_lot, securities_of_lot}
-use Rattle.office_base.specs.Transitions.{with_next_release}
-use Rattle.office_base.specs.declared.records.EnvelopeRow.{EnvelopeRow}
-use Rattle.office_base.specs.declared.records.LineRow.{LineRow}
-use Rattle.office_base.specs.declared.records.LotRow.{LotRow}
-use Rattle.office_base.specs.declared.records.NoticeRow.{NoticeRow}
-use Rattle.award_core.specs.Rules.Award.{winner, unsuccessful, awarded, price_of, decision_puts, award_puts, award_rows, award_lacks}
-use Rattle.office_machine.specs.Orphans.{award_is_taken}
-use Rattle.office_machine.specs.References.{OfAward, is_named, is_there}
+use Rattle.office_machine.proofs.Names.{max, ℕ, ◌+◌, ◌-◌, false, ◌&&◌, ◌||◌, ◌≡◌, List, Option, Some, None, is_some, refl, line_of_lot, Tables, IsSorted, award_at, line_at, lot_at, notice_at, envelopes_of_lot, securities_of_lot, with_next_release, EnvelopeRow, LineRow, LotRow, NoticeRow, winner, unsuccessful, awarded, price_of, decision_puts, award_puts, award_rows, award_lacks, award_is_taken, OfAward, is_named, is_there, Award}
 use Rattle.office_machine.proofs.NoParents.Gentle.{AreGentle}
 use Rattle.office_machine.proofs.Passed.{neither}
 use Rattle.office_machine.proofs.NoParents.Gentle.{PutsGently}
 use Rattle.office_machine.proofs.NoParents.Kept.{notice_kept, line_of, lot_kept, lot_returned}
 use Rattle.office_machine.proofs.NoParents.New.{unnamed, no_row}
-use Rattle.office_commands.specs.declared.commands.Command.TheVariants.{Award}
 
 -- the next award has no row, no contract, no entry and no performance security, if there is a winner
 decided_by : (s : Tables) (order : IsSorted s) (t : ℕ) (notice lot : List ℕ) (n : NoticeRow) (l : LotRow) (w : LineRow) → notice_at notice s ≡ Some n → lot_at (notice, lot) s ≡ Some l → line_at l.line s ≡ Some w

@@ -1,9 +1,5 @@
 -- The winner of a lot.
-use Rattle.std.specs.Prelude.{◌≡◌, ℕ, Bool, true, false, cond, ◌||◌, List, [], ◌∷◌, filter, Option, Some, None}
-use Rattle.std.proofs.Common.{refl, subst}
-use Rattle.std.specs.List.{AllByRecursion, list_any}
-use Rattle.office_base.specs.declared.records.EnvelopeRow.{EnvelopeRow}
-use Rattle.award_core.specs.Rules.Award.{is_admissible, is_better, better, best_with}
+use Rattle.office_machine.proofs.Names.{◌≡◌, ℕ, Bool, true, false, cond, ◌||◌, List, [], ◌∷◌, filter, Option, Some, None, refl, subst, AllByRecursion, list_any, EnvelopeRow, is_admissible, is_better, better, best_with}
 
 -- the elements that pass keep their property
 pub passing : {X : Type 0} (P : X → Type 0) (p : X → Bool) (xs : List X) → AllByRecursion P xs

@@ -1,47 +1,15 @@
 -- A cancellation keeps the accounts.
-use Rattle.std.proofs.Common.{◌≡◌, ℕ, ◌+◌, Bool, true, false, cond, ◌&&◌, List, [], ◌∷◌, ◌++◌, map, filter, Option, Some, None, is_some, refl, sym, ◌∙◌, ap, subst, arith, option_map, unwrap_or}
-use Rattle.std.specs.List.{AllByRecursion}
-use Rattle.std.specs.Ordering.{nat_cmp, eq_by_cmp}
-use Rattle.office_values.specs.Ids.{same_id, id_cmp}
-use Rattle.office_commands.specs.declared.command.Caller.{Caller}
-use Rattle.office_values.specs.declared.refusal.Refusal.{Refusal}
-use Rattle.office_base.specs.Rows.{holds_of, row_put}
-use Rattle.office_base.specs.Rules.{first_of}
-use Rattle.office_base.specs.Transitions.{clock_put, security_returned}
-use Rattle.office_base.specs.declared.records.LineRow.{LineRow}
-use Rattle.office_base.specs.declared.records.NoticeRow.{NoticeRow}
-use Rattle.office_base.specs.declared.records.LotRow.{LotRow}
-use Rattle.office_base.specs.declared.records.ContractRow.{ContractRow}
-use Rattle.office_base.specs.Tables.{Tables, IsSorted, notice_at, find_line, find_lot, after_puts, line_key, lot_key, lot_cmp, award_key, find_award, of_notice, lots_of_notice, awards_of_notice, envelopes_of_notice, securities_of_notice, after_put}
-use Rattle.office_base.specs.Joined.{plus, minus, paid_under, free_in, appropriation_in}
-use Rattle.office_machine.specs.Machine.{Given, time_of, command_tests, effect}
-use Rattle.office_machine.specs.Readings.{Readings}
-use Rattle.office_machine.specs.Moves.{Move, Outside, Free, Reserved, Contracted, Paid, moves, reserved_for, Pot, inflow, outflow, same_pot, move_back}
+use Rattle.office_machine.proofs.Names.{◌≡◌, ℕ, ◌+◌, Bool, true, false, cond, ◌&&◌, List, [], ◌∷◌, ◌++◌, map, filter, Option, Some, None, is_some, refl, sym, ◌∙◌, ap, subst, arith, option_map, unwrap_or, AllByRecursion, nat_cmp, eq_by_cmp, same_id, id_cmp, Caller, Refusal, holds_of, row_put, first_of, clock_put, security_returned, LineRow, NoticeRow, LotRow, ContractRow, Tables, IsSorted, notice_at, find_line, find_lot, after_puts, line_key, lot_key, lot_cmp, award_key, find_award, of_notice, lots_of_notice, awards_of_notice, envelopes_of_notice, securities_of_notice, after_put, plus, minus, paid_under, free_in, appropriation_in, Given, time_of, command_tests, effect, Readings, Move, Outside, Free, Reserved, Contracted, Paid, moves, reserved_for, Pot, inflow, outflow, same_pot, move_back, filter_filter, equal_keys, ids_exact, same_id_is, if_passes, row_at-filter, found_key, nat_list_cmp_total, Ordering, sum_over, Put, AwardRow, EnvelopeRow, SecurityRow, is_active, no_line, is_open_lot, cancelled_lot, freed, freed_line, ends, is_ended_award, cancelled_award, is_ended_envelope, envelope_put, drop_put, is_ended_security, cancelled_notice, cancel_puts, sum_over-append_map, sum_over-zero, sum_over-ext}
 use Rattle.office_commands.specs.declared.commands.Command.TheVariants as commands
 use Rattle.office_base.specs.declared.puts.Put.TheVariants as puts
 use Rattle.office_machine.proofs.Accounts.Aside.{kept_aside, AreAside, aside-append, aside-map}
-use Rattle.office_base.proofs.RowLaws.Filters.{filter_filter}
-use Rattle.office_base.proofs.ExactKeys.{equal_keys, ids_exact, same_id_is}
 use Rattle.office_machine.proofs.Rows.Keyed.{found, sum-found_agree}
-use Rattle.office_base.proofs.RowLaws.Filters.{if_passes, row_at-filter}
-use Rattle.office_base.proofs.RowLaws.Keyed.{found_key}
 use Rattle.office_machine.proofs.Rows.Keyed as keyed
 use Rattle.office_machine.proofs.Accounts.Kept.{AccountsStand, PotsAre, LotIs, AwardIs, over_contracts, reserved_by, reserved_over, is_awarded}
 use Rattle.office_machine.proofs.Passed.{none_holds, neither, not_false, witness}
-use Rattle.std.specs.Cmp.Lexicographic.{nat_list_cmp_total}
-use Rattle.std.specs.declared.cmp.Ordering.{Ordering}
-use Rattle.office_base.specs.Sums.{sum_over}
-use Rattle.office_base.specs.declared.puts.Put.{Put}
-use Rattle.office_base.specs.declared.records.AwardRow.{AwardRow}
-use Rattle.office_base.specs.declared.records.EnvelopeRow.{EnvelopeRow}
-use Rattle.office_base.specs.declared.records.SecurityRow.{SecurityRow}
-use Rattle.office_base.specs.States.{is_active}
-use Rattle.tender_core.specs.Rules.Publish.{no_line}
-use Rattle.tender_core.specs.Rules.Cancel.{is_open_lot, cancelled_lot, freed, freed_line, ends, is_ended_award, cancelled_award, is_ended_envelope, envelope_put, drop_put, is_ended_security, cancelled_notice, cancel_puts}
 use Rattle.office_machine.proofs.Rows.RowsPut.{rows_put, some_has, lines_put, lots_put, after_lines, after_lots, found_after, there_after}
 use Rattle.office_machine.proofs.Accounts.Joins.{is_of}
 use Rattle.office_machine.proofs.Rows.Mapped.{put_changed, changed, put_changed_is, row_at-changed, sum-put_filtered, sum_over-passing}
-use Rattle.office_base.proofs.SumsOver.{sum_over-append_map, sum_over-zero, sum_over-ext}
 
 -- this amount of the line becomes free again
 record IsFreed (before after : Option LineRow) (amount : ℕ) : Type 0 where

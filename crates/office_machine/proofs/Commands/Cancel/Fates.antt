@@ -1,42 +1,11 @@
 -- A cancellation keeps the fates.
-use Rattle.std.specs.Prelude.{◌≡◌, ℕ, Bool, true, false, cond, ◌&&◌, List, [], ◌∷◌, ◌++◌, map, filter, Option, Some, None, option_map, max}
-use Rattle.std.proofs.Common.{refl, sym, ap, ◌∙◌, subst}
-use Rattle.std.specs.List.{AllByRecursion}
-use Rattle.std.specs.Cmp.{nat_cmp_total}
-use Rattle.std.specs.FinMap.{nat_cmp-IsAntisymmetric}
-use Rattle.std.specs.Ordering.{nat_cmp}
-use Rattle.office_values.specs.Ids.{id_cmp, same_id}
-use Rattle.office_commands.specs.declared.tender.NamedSecurity.{NamedSecurity}
-use Rattle.office_commands.specs.declared.command.Caller.{Caller}
-use Rattle.office_commands.specs.declared.commands.Command.TheVariants.{Cancel}
-use Rattle.office_values.specs.declared.refusal.Refusal.{Refusal}
-use Rattle.office_base.specs.Rows.{holds_of}
-use Rattle.office_base.proofs.RowLaws.Filters.{if_passes, filter_filter, row_at-filter}
-use Rattle.office_base.proofs.RowLaws.Keyed.{found_key}
-use Rattle.office_base.specs.declared.records.NoticeRow.{NoticeRow}
-use Rattle.office_base.specs.declared.records.LotRow.{LotRow}
-use Rattle.office_base.specs.declared.records.EnvelopeRow.{EnvelopeRow}
-use Rattle.office_base.specs.declared.records.SecurityRow.{SecurityRow}
-use Rattle.office_base.specs.declared.records.AwardRow.{AwardRow}
+use Rattle.office_machine.proofs.Names.{◌≡◌, ℕ, Bool, true, false, cond, ◌&&◌, List, [], ◌∷◌, ◌++◌, map, filter, Option, Some, None, option_map, max, refl, sym, ap, ◌∙◌, subst, AllByRecursion, nat_cmp_total, nat_cmp-IsAntisymmetric, nat_cmp, id_cmp, same_id, NamedSecurity, Caller, Cancel, Refusal, holds_of, if_passes, filter_filter, row_at-filter, found_key, NoticeRow, LotRow, EnvelopeRow, SecurityRow, AwardRow, EnvelopeState, SecurityState, Put, is_sealed, is_held, is_active, is_receiving, first_of, clock_put, security_returned, returned, is_open_lot, cancelled_lot, cancelled_lot_put, freed_line, freed_line_put, ends, is_ended_award, cancelled_award, award_put, is_ended_envelope, returned_envelope, envelope_put, drop_put, is_ended_security, cancelled_notice, cancel_tests, cancel_puts, Tables, lot_cmp, line_key, lot_key, envelope_key, seal_key, security_key, award_key, find_lot, of_notice, envelope_at, seal_at, security_at, award_at, lot_at, notice_at, lots_of_notice, envelopes_of_notice, securities_of_notice, awards_of_notice, after_puts, Given, Readings, Reception, received_at, is_of_notice, tender_decided, fate_of_tender, security_decided, fate_of_security, is_kept, EnvelopeIs, SecurityIs, lots_total, lots_exact, equal_ids, same_itself}
 use Rattle.office_base.specs.declared.records.EnvelopeState.TheVariants as envelope
-use Rattle.office_base.specs.declared.records.EnvelopeState.{EnvelopeState}
 use Rattle.office_base.specs.declared.records.SecurityState.TheVariants as security
-use Rattle.office_base.specs.declared.records.SecurityState.{SecurityState}
 use Rattle.office_base.specs.declared.records.LotState.TheVariants as lot
 use Rattle.office_base.specs.declared.records.NoticeState.TheVariants as notice
 use Rattle.office_base.specs.declared.puts.Put.TheVariants as puts
-use Rattle.office_base.specs.declared.puts.Put.{Put}
-use Rattle.office_base.specs.States.{is_sealed, is_held, is_active, is_receiving}
-use Rattle.office_base.specs.Rules.{first_of}
-use Rattle.office_base.specs.Transitions.{clock_put, security_returned, returned}
-use Rattle.tender_core.specs.Rules.Cancel.{is_open_lot, cancelled_lot, cancelled_lot_put, freed_line, freed_line_put, ends, is_ended_award, cancelled_award, award_put, is_ended_envelope, returned_envelope, envelope_put, drop_put, is_ended_security, cancelled_notice, cancel_tests, cancel_puts}
-use Rattle.office_base.specs.Tables.{Tables, lot_cmp, line_key, lot_key, envelope_key, seal_key, security_key, award_key, find_lot, of_notice, envelope_at, seal_at, security_at, award_at, lot_at, notice_at, lots_of_notice, envelopes_of_notice, securities_of_notice, awards_of_notice, after_puts}
-use Rattle.office_machine.specs.Machine.{Given}
-use Rattle.office_machine.specs.Readings.{Readings}
-use Rattle.office_machine.specs.Fates.{Reception, received_at, is_of_notice, tender_decided, fate_of_tender, security_decided, fate_of_security, is_kept, EnvelopeIs, SecurityIs}
 use Rattle.office_machine.proofs.Rows.Counting.{is_live}
-use Rattle.office_base.proofs.Orders.{lots_total}
-use Rattle.office_base.proofs.ExactKeys.{lots_exact, equal_ids, same_itself}
 use Rattle.office_machine.proofs.Passed.{none_holds}
 use Rattle.office_machine.proofs.Rows.RowsChanged.{rows_put, rows_drop, changed, row_at-changed, some_passes_is}
 use Rattle.office_machine.proofs.FateLaws.Views.{Change, after_change}

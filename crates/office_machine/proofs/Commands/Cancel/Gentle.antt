@@ -1,21 +1,11 @@
 -- Over any tables, a cancellation makes no missing parent of a row, and replaces no row of another owner.
-use Rattle.std.specs.Prelude.{max, ℕ, false, ◌&&◌, ◌≡◌, List, [], ◌∷◌, Option, Some, None, is_some, map, filter}
-use Rattle.std.proofs.Common.{refl}
-use Rattle.std.specs.List.{AllByRecursion, list_any}
-use Rattle.office_base.specs.Tables.{Tables, IsSorted, notice_at, awards_of_notice, envelopes_of_notice, lots_of_notice, securities_of_notice, of_notice}
-use Rattle.office_base.specs.Transitions.{security_returned}
-use Rattle.office_base.specs.declared.records.ClockRow.{ClockRow}
-use Rattle.office_base.specs.declared.records.EnvelopeRow.{EnvelopeRow}
-use Rattle.office_base.specs.declared.records.LotRow.{LotRow}
-use Rattle.office_base.specs.declared.records.NoticeRow.{NoticeRow}
-use Rattle.tender_core.specs.Rules.Cancel.{freed_line, cancelled_lot, cancelled_award, returned_envelope, cancelled_notice, freed_line_put, cancelled_lot_put, is_open_lot, is_ended_award, award_put, is_ended_envelope, envelope_put, drop_put, is_ended_security, cancel_puts, lacks_line}
+use Rattle.office_machine.proofs.Names.{max, ℕ, false, ◌&&◌, ◌≡◌, List, [], ◌∷◌, Option, Some, None, is_some, map, filter, refl, AllByRecursion, list_any, Tables, IsSorted, notice_at, awards_of_notice, envelopes_of_notice, lots_of_notice, securities_of_notice, of_notice, security_returned, ClockRow, EnvelopeRow, LotRow, NoticeRow, freed_line, cancelled_lot, cancelled_award, returned_envelope, cancelled_notice, freed_line_put, cancelled_lot_put, is_open_lot, is_ended_award, award_put, is_ended_envelope, envelope_put, drop_put, is_ended_security, cancel_puts, lacks_line, Cancel}
 use Rattle.office_machine.proofs.NoParents.Gentle.{AreGentle, IsGentle, gentle-append, gentle-map}
 use Rattle.office_machine.proofs.Passed.{neither, not_false}
 use Rattle.office_machine.proofs.Rows.Keyed.{all_found}
 use Rattle.office_machine.proofs.Rows.Keyed as keyed
 use Rattle.office_machine.proofs.NoParents.Gentle.{PutsGently}
 use Rattle.office_machine.proofs.NoParents.Kept.{notice_kept, line_kept, lot_kept, envelope_kept, award_kept, all_filter, returned_gently}
-use Rattle.office_commands.specs.declared.commands.Command.TheVariants.{Cancel}
 
 lines_there : (s : Tables) (all lots : List LotRow) → list_any (lacks_line s.lines) lots ≡ false → AllByRecursion (λ l. IsGentle s (freed_line_put s.lines all l)) lots
 lines_there s all [] none = tt

@@ -1,21 +1,8 @@
 -- Over any tables, the end of a contract makes no missing parent of a row, and replaces no row of another owner.
-use Rattle.std.specs.Prelude.{max, ℕ, ◌+◌, cond, ◌≡◌, Option, Some, None}
-use Rattle.std.proofs.Common.{refl}
-use Rattle.office_base.specs.Joined.{outstanding}
-use Rattle.office_base.specs.States.{is_held}
-use Rattle.office_base.specs.Parents.{notice_of_contract, lot_of_contract, line_of_lot}
-use Rattle.office_base.specs.Tables.{Tables, contract_at, performance_at, entries_of_contract}
-use Rattle.office_base.specs.Transitions.{performance_settled, with_next_release}
-use Rattle.office_base.specs.declared.records.ClockRow.{ClockRow}
-use Rattle.office_base.specs.declared.records.ContractRow.{ContractRow}
-use Rattle.office_base.specs.declared.records.LineRow.{LineRow}
-use Rattle.office_base.specs.declared.records.NoticeRow.{NoticeRow}
-use Rattle.award_core.specs.Rules.End.{end_puts, ended_contract, ended_state}
-use Rattle.office_commands.specs.declared.contract.How.{How}
+use Rattle.office_machine.proofs.Names.{max, ℕ, ◌+◌, cond, ◌≡◌, Option, Some, None, refl, outstanding, is_held, notice_of_contract, lot_of_contract, line_of_lot, Tables, contract_at, performance_at, entries_of_contract, performance_settled, with_next_release, ClockRow, ContractRow, LineRow, NoticeRow, end_puts, ended_contract, ended_state, How, End}
 use Rattle.office_machine.proofs.NoParents.Gentle.{AreGentle}
 use Rattle.office_machine.proofs.NoParents.Gentle.{PutsGently}
 use Rattle.office_machine.proofs.NoParents.Kept.{notice_kept, line_of, contract_kept, performance_kept, gentle-if, line_found}
-use Rattle.office_commands.specs.declared.commands.Command.TheVariants.{End}
 
 end_by : (s : Tables) (clock : ClockRow) (t contract : ℕ) (how : How) (o : Option ContractRow) (n : Option NoticeRow) (w : Option LineRow) → contract_at contract s ≡ o → notice_of_contract o s ≡ n
     → line_of_lot (lot_of_contract o s) s ≡ w

@@ -1,14 +1,8 @@
 -- Over any tables, an examination makes no missing parent of a row, and replaces no row of another owner.
-use Rattle.std.specs.Prelude.{max, ℕ, Bool, ◌≡◌, Option, Some, None}
-use Rattle.std.proofs.Common.{refl}
-use Rattle.office_base.specs.Tables.{Tables, envelope_at}
-use Rattle.office_base.specs.declared.records.EnvelopeRow.{EnvelopeRow}
-use Rattle.award_core.specs.Rules.Examine.{examine_puts, examine_rows, examined}
-use Rattle.award_core.specs.declared.examine.ExamineRows.{ExamineRows}
+use Rattle.office_machine.proofs.Names.{max, ℕ, Bool, ◌≡◌, Option, Some, None, refl, Tables, envelope_at, EnvelopeRow, examine_puts, examine_rows, examined, ExamineRows, Examine}
 use Rattle.office_machine.proofs.NoParents.Gentle.{AreGentle}
 use Rattle.office_machine.proofs.NoParents.Gentle.{PutsGently}
 use Rattle.office_machine.proofs.NoParents.Kept.{envelope_kept}
-use Rattle.office_commands.specs.declared.commands.Command.TheVariants.{Examine}
 
 examine_by : (s : Tables) (rows : ExamineRows) (t receipt : ℕ) (responsive : Bool) (quality : Option ℕ) (o : Option EnvelopeRow) → envelope_at receipt s ≡ o
     → AreGentle s (examine_puts (record rows { envelope = o }) t responsive quality)

@@ -1,30 +1,12 @@
 -- A failure of an award keeps the accounts.
-use Rattle.std.proofs.Common.{◌≡◌, ℕ, Bool, true, false, List, ◌∷◌, ◌++◌, Some, None, refl, sym, ◌∙◌, ap, subst, arith}
-use Rattle.std.specs.List.{AllByRecursion}
-use Rattle.office_commands.specs.declared.command.Caller.{Caller}
-use Rattle.office_values.specs.declared.refusal.Refusal.{Refusal}
-use Rattle.office_base.specs.declared.records.SecurityState.TheVariants.{Forfeited}
-use Rattle.office_base.specs.Rules.{first_of}
-use Rattle.office_base.specs.Transitions.{with_next_release, clock_put, put_if, passed_over, security_settled}
-use Rattle.office_base.specs.declared.records.NoticeRow.{NoticeRow}
-use Rattle.office_base.specs.declared.records.LotRow.{LotRow}
-use Rattle.office_base.specs.Tables.{Tables, notice_at, lot_at, find_lot, after_puts, find_award, put_award, put_lot, award_at}
-use Rattle.office_base.specs.Joined.{plus, minus, paid_under}
-use Rattle.office_base.specs.Parents.{notice_of_award, lot_of_award, envelope_of_award, security_of_envelope}
-use Rattle.office_machine.specs.Machine.{Given, time_of, command_tests, effect}
-use Rattle.office_machine.specs.Readings.{Readings}
-use Rattle.office_machine.specs.Moves.{moves}
+use Rattle.office_machine.proofs.Names.{◌≡◌, ℕ, Bool, true, false, List, ◌∷◌, ◌++◌, Some, None, refl, sym, ◌∙◌, ap, subst, arith, AllByRecursion, Caller, Refusal, Forfeited, first_of, with_next_release, clock_put, put_if, passed_over, security_settled, NoticeRow, LotRow, Tables, notice_at, lot_at, find_lot, after_puts, find_award, put_award, put_lot, award_at, plus, minus, paid_under, notice_of_award, lot_of_award, envelope_of_award, security_of_envelope, Given, time_of, command_tests, effect, Readings, moves, found_key, AwardRow, is_active, isnt_active, failed_award, undecided_again, fail_puts}
 use Rattle.office_commands.specs.declared.commands.Command.TheVariants as commands
 use Rattle.office_base.specs.declared.puts.Put.TheVariants as puts
 use Rattle.office_machine.proofs.Accounts.Aside.{kept_aside, aside-append, aside-if}
 use Rattle.office_machine.proofs.Rows.Keyed.{found, still_there}
-use Rattle.office_base.proofs.RowLaws.Keyed.{found_key}
 use Rattle.office_machine.proofs.Rows.Keyed as keyed
 use Rattle.office_machine.proofs.Accounts.Kept.{AccountsStand, PotsAre, AwardIs, is_awarded}
 use Rattle.office_machine.proofs.Passed.{none_holds, not_false, witness, test_of}
-use Rattle.office_base.specs.declared.records.AwardRow.{AwardRow}
-use Rattle.office_base.specs.States.{is_active}
-use Rattle.award_core.specs.Rules.Fail.{isnt_active, failed_award, undecided_again, fail_puts}
 use Rattle.office_base.specs.declared.records.AwardState.TheVariants as award_states
 use Rattle.office_base.specs.declared.records.LotState.TheVariants as lot_states
 use Rattle.office_machine.proofs.Accounts.LotChanged.{joined, reserved_after, lots_are, awards_are, one_active, award_of}

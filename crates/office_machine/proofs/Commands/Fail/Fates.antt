@@ -1,35 +1,10 @@
 -- A failure of an award keeps the fates.
-use Rattle.std.specs.Prelude.{◌≡◌, ℕ, Bool, true, false, cond, List, ◌∷◌, Option, Some, None, option_map, option_and_then, is_some, max}
-use Rattle.std.proofs.Common.{refl, sym, ap, ◌∙◌, subst}
-use Rattle.std.specs.List.{AllByRecursion}
-use Rattle.std.specs.Cmp.{nat_cmp_total}
-use Rattle.std.specs.FinMap.{nat_cmp-IsAntisymmetric}
-use Rattle.std.specs.Ordering.{nat_cmp, eq_by_cmp}
-use Rattle.office_commands.specs.declared.tender.NamedSecurity.{NamedSecurity}
-use Rattle.office_commands.specs.declared.command.Caller.{Caller}
-use Rattle.office_commands.specs.declared.commands.Command.TheVariants.{Fail}
-use Rattle.office_values.specs.declared.refusal.Refusal.{Refusal}
-use Rattle.office_base.specs.declared.records.NoticeRow.{NoticeRow}
-use Rattle.office_base.specs.declared.records.LotRow.{LotRow}
-use Rattle.office_base.specs.declared.records.EnvelopeRow.{EnvelopeRow}
-use Rattle.office_base.specs.declared.records.SecurityRow.{SecurityRow}
-use Rattle.office_base.specs.declared.records.AwardRow.{AwardRow}
+use Rattle.office_machine.proofs.Names.{◌≡◌, ℕ, Bool, true, false, cond, List, ◌∷◌, Option, Some, None, option_map, option_and_then, is_some, max, refl, sym, ap, ◌∙◌, subst, AllByRecursion, nat_cmp_total, nat_cmp-IsAntisymmetric, nat_cmp, eq_by_cmp, NamedSecurity, Caller, Fail, Refusal, NoticeRow, LotRow, EnvelopeRow, SecurityRow, AwardRow, Put, is_held, first_of, with_next_release, passed_over, settled, failed_award, undecided_again, fail_tests, fail_puts, Tables, envelope_key, award_key, lot_key, envelope_at, seal_at, security_at, award_at, lot_at, notice_at, after_puts, notice_of_award, lot_of_award, envelope_of_award, security_of_envelope, Given, Readings, Reception, received_at, fate_of_tender, security_decided, fate_of_security, is_kept, has_number, carries, is_award_security, SecurityIs, found_key}
 use Rattle.office_base.specs.declared.records.SecurityState.TheVariants as security
 use Rattle.office_base.specs.declared.records.AwardState.TheVariants as award
 use Rattle.office_base.specs.declared.records.LotState.TheVariants as lot
-use Rattle.office_base.specs.declared.puts.Put.{Put}
-use Rattle.office_base.specs.States.{is_held}
-use Rattle.office_base.specs.Rules.{first_of}
-use Rattle.office_base.specs.Transitions.{with_next_release, passed_over, settled}
-use Rattle.award_core.specs.Rules.Fail.{failed_award, undecided_again, fail_tests, fail_puts}
-use Rattle.office_base.specs.Tables.{Tables, envelope_key, award_key, lot_key, envelope_at, seal_at, security_at, award_at, lot_at, notice_at, after_puts}
-use Rattle.office_base.specs.Parents.{notice_of_award, lot_of_award, envelope_of_award, security_of_envelope}
-use Rattle.office_machine.specs.Machine.{Given}
-use Rattle.office_machine.specs.Readings.{Readings}
-use Rattle.office_machine.specs.Fates.{Reception, received_at, fate_of_tender, security_decided, fate_of_security, is_kept, has_number, carries, is_award_security, SecurityIs}
 use Rattle.office_machine.proofs.Passed.{none_holds}
 use Rattle.office_machine.proofs.Rows.RowsChanged.{row_at-changed_put}
-use Rattle.office_base.proofs.RowLaws.Keyed.{found_key}
 use Rattle.office_machine.proofs.FateLaws.Views.{AwardFits, Change, after_change}
 use Rattle.office_machine.proofs.FateLaws.Matched.{EnvelopeStands}
 use Rattle.office_machine.proofs.FateLaws.Steps.{cond_keeps, settled_keep, settled_goes}

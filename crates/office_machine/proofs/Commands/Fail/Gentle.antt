@@ -1,20 +1,9 @@
 -- Over any tables, a failed award makes no missing parent of a row, and replaces no row of another owner.
-use Rattle.std.specs.Prelude.{max, ℕ, ◌≡◌, Option, Some, None}
-use Rattle.std.proofs.Common.{refl}
-use Rattle.office_base.specs.Parents.{notice_of_award, lot_of_award, envelope_of_award, security_of_envelope}
-use Rattle.office_base.specs.Tables.{Tables, award_at}
-use Rattle.office_base.specs.Transitions.{passed_over, put_if, security_settled, with_next_release}
+use Rattle.office_machine.proofs.Names.{max, ℕ, ◌≡◌, Option, Some, None, refl, notice_of_award, lot_of_award, envelope_of_award, security_of_envelope, Tables, award_at, passed_over, put_if, security_settled, with_next_release, AwardRow, ClockRow, LotRow, NoticeRow, Forfeited, fail_puts, failed_award, undecided_again, Fail}
 use Rattle.office_base.specs.declared.puts.Put.TheVariants as puts
-use Rattle.office_base.specs.declared.records.AwardRow.{AwardRow}
-use Rattle.office_base.specs.declared.records.ClockRow.{ClockRow}
-use Rattle.office_base.specs.declared.records.LotRow.{LotRow}
-use Rattle.office_base.specs.declared.records.NoticeRow.{NoticeRow}
-use Rattle.office_base.specs.declared.records.SecurityState.TheVariants.{Forfeited}
-use Rattle.award_core.specs.Rules.Fail.{fail_puts, failed_award, undecided_again}
 use Rattle.office_machine.proofs.NoParents.Gentle.{AreGentle, gentle-append}
 use Rattle.office_machine.proofs.NoParents.Gentle.{PutsGently}
 use Rattle.office_machine.proofs.NoParents.Kept.{notice_kept, lot_kept, envelope_kept, award_kept, gentle-if, security_settles}
-use Rattle.office_commands.specs.declared.commands.Command.TheVariants.{Fail}
 
 fail_by : (s : Tables) (clock : ClockRow) (t award : ℕ) (o : Option AwardRow) (n : Option NoticeRow) (l : Option LotRow) → award_at award s ≡ o → notice_of_award o s ≡ n → lot_of_award o s ≡ l
     → AreGentle s (fail_puts (record { award = o; notice = n; lot = l; envelope = envelope_of_award o s; security = security_of_envelope (envelope_of_award o s) s; clock = clock }) t)

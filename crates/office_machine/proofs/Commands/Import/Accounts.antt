@@ -1,33 +1,11 @@
 -- An import keeps the accounts.
-use Rattle.std.proofs.Common.{◌≡◌, ℕ, ◌+◌, Bool, true, false, cond, ◌&&◌, List, ◌∷◌, ◌++◌, map, None, refl, sym, ap, subst, arith, length, nat_lt, not, Some, [], ◌≤◌, ◌-◌}
-use Rattle.std.specs.List.{AllByRecursion}
-use Rattle.office_values.specs.Ids.{same_id, id_cmp}
-use Rattle.office_commands.specs.declared.command.Caller.{Caller}
-use Rattle.office_values.specs.declared.refusal.Refusal.{Refusal}
-use Rattle.office_base.specs.Rules.{first_of}
-use Rattle.office_base.specs.declared.records.LineRow.{LineRow}
-use Rattle.office_base.specs.Tables.{Tables, IsSorted, after_puts, line_key, put_batch}
-use Rattle.office_machine.specs.Machine.{Given, time_of, command_tests, effect}
-use Rattle.office_machine.specs.Readings.{Readings}
-use Rattle.office_machine.specs.Moves.{Move, Outside, Free, Reserved, Contracted, Paid, moves, Pot, inflow, outflow, same_pot, move_of_row}
+use Rattle.office_machine.proofs.Names.{◌≡◌, ℕ, ◌+◌, Bool, true, false, cond, ◌&&◌, List, ◌∷◌, ◌++◌, map, None, refl, sym, ap, subst, arith, length, nat_lt, not, Some, [], ◌≤◌, ◌-◌, AllByRecursion, same_id, id_cmp, Caller, Refusal, first_of, LineRow, Tables, IsSorted, after_puts, line_key, put_batch, Given, time_of, command_tests, effect, Readings, Move, Outside, Free, Reserved, Contracted, Paid, moves, Pot, inflow, outflow, same_pot, move_of_row, nat_list_cmp_total, BudgetRow, sum_over, total_limit, appropriation, columns_at-after_row, eq_by_cmp, Columns, Standing, columns_at, standings, appropriation_of, free_of, columns_after, after_row, any_while_walking, passes_limit, row_limit, is_cut, after_rows, imported_line, sum_over-append_map, sum_over-ext, sum_over-zero}
 use Rattle.office_commands.specs.declared.commands.Command.TheVariants as commands
 use Rattle.office_machine.proofs.Accounts.Kept.{AccountsStand, PotsAre}
 use Rattle.office_machine.proofs.Passed.{none_holds, neither, at_least}
-use Rattle.std.specs.Cmp.Lexicographic.{nat_list_cmp_total}
-use Rattle.office_commands.specs.declared.budget.BudgetRow.{BudgetRow}
-use Rattle.office_base.specs.Sums.{sum_over}
-use Rattle.office_values.specs.Money.{total_limit}
-use Rattle.office_machine.specs.Accounts.{appropriation}
-use Rattle.tender_core.proofs.ImportsAgree.{columns_at-after_row}
-use Rattle.std.specs.Ordering.{eq_by_cmp}
-use Rattle.office_base.specs.declared.standing.Columns.{Columns}
-use Rattle.office_base.specs.declared.standing.Standing.{Standing}
-use Rattle.office_base.specs.Standings.{columns_at, standings}
-use Rattle.tender_core.specs.Rules.Import.{appropriation_of, free_of, columns_after, after_row, any_while_walking, passes_limit, row_limit, is_cut, after_rows, imported_line}
 use Rattle.office_machine.proofs.Accounts.Balance.{add_up}
 use Rattle.office_machine.proofs.Commands.Import.Columns.{Changed, IsCovered, stands_after, columns_stand, adds, cuts, rows_change}
 use Rattle.office_machine.proofs.Rows.RowsPut.{lines_put, after_lines, there_after}
-use Rattle.office_base.proofs.SumsOver.{sum_over-append_map, sum_over-ext, sum_over-zero}
 
 -- the amount that a row's move brings into free
 into_free : (cut same : Bool) (n : ℕ) → cond (same_pot (cond cut Outside Free) Free && same) n 0 ≡ cond same (cond cut 0 n) 0

@@ -1,21 +1,5 @@
 -- The appropriation and the free amount of a line after the rows of a file.
-use Rattle.std.specs.Prelude.{◌≡◌, ℕ, ◌+◌, ◌-◌, ◌≤◌, Bool, true, false, cond, ◌&&◌, List, [], ◌∷◌, map, Option, Some, None, option_map, nat_lt, ◌||◌}
-use Rattle.std.proofs.Common.{refl, sym, ap, ◌∙◌, subst, arith}
-use Rattle.std.specs.List.{AllByRecursion}
-use Rattle.std.specs.Cmp.Lexicographic.{nat_list_cmp_total}
-use Rattle.std.specs.Ordering.{eq_by_cmp}
-use Rattle.office_values.specs.Ids.{id_cmp, same_id}
-use Rattle.office_commands.specs.declared.budget.BudgetRow.{BudgetRow}
-use Rattle.office_base.specs.Sums.{sum_over}
-use Rattle.office_base.specs.Tables.{Tables, line_key, find_line, line_at}
-use Rattle.office_base.specs.Standings.{columns_at, columns_of_row, standings}
-use Rattle.tender_core.specs.Rules.Import.{is_cut, appropriation_of, free_of, columns_after, after_row, after_rows, any_while_walking, cuts_too_much, imported_line, cuts_below_zero}
-use Rattle.office_base.specs.Joined.{appropriation_in, free_in}
-use Rattle.office_base.specs.declared.records.LineRow.{LineRow}
-use Rattle.office_base.specs.declared.standing.Columns.{Columns}
-use Rattle.office_base.specs.declared.standing.Standing.{Standing}
-use Rattle.tender_core.proofs.ImportsAgree.{columns_at-after_row, columns_at-standings}
-use Rattle.office_base.proofs.ExactKeys.{ids_exact, equal_keys, equal_ids, same_id_is}
+use Rattle.office_machine.proofs.Names.{◌≡◌, ℕ, ◌+◌, ◌-◌, ◌≤◌, Bool, true, false, cond, ◌&&◌, List, [], ◌∷◌, map, Option, Some, None, option_map, nat_lt, ◌||◌, refl, sym, ap, ◌∙◌, subst, arith, AllByRecursion, nat_list_cmp_total, eq_by_cmp, id_cmp, same_id, BudgetRow, sum_over, Tables, line_key, find_line, line_at, columns_at, columns_of_row, standings, is_cut, appropriation_of, free_of, columns_after, after_row, after_rows, any_while_walking, cuts_too_much, imported_line, cuts_below_zero, appropriation_in, free_in, LineRow, Columns, Standing, columns_at-after_row, columns_at-standings, ids_exact, equal_keys, equal_ids, same_id_is}
 use Rattle.office_machine.proofs.Passed.{neither, at_least}
 use Rattle.office_machine.proofs.Parents.Whole.{not_less}
 use Rattle.office_machine.proofs.Rows.RowsPut.{some_has, lines_put, found_after}

@@ -1,17 +1,8 @@
 -- Over any tables, a budget import makes no missing parent of a row, and replaces no row of another owner.
-use Rattle.std.specs.Prelude.{ℕ, false, ◌≡◌, List, [], ◌∷◌, map}
-use Rattle.std.proofs.Common.{refl}
-use Rattle.std.specs.List.{AllByRecursion, list_any}
-use Rattle.office_commands.specs.declared.budget.BudgetRow.{BudgetRow}
-use Rattle.office_base.specs.Standings.{standings}
-use Rattle.office_base.specs.Tables.{Tables}
-use Rattle.office_base.specs.declared.puts.Put.{Put}
-use Rattle.tender_core.specs.Rules.Import.{imported_line_put, import_lacks, import_rows, after_rows}
-use Rattle.office_machine.specs.Orphans.{names_lost_line}
+use Rattle.office_machine.proofs.Names.{ℕ, false, ◌≡◌, List, [], ◌∷◌, map, refl, AllByRecursion, list_any, BudgetRow, standings, Tables, Put, imported_line_put, import_lacks, import_rows, after_rows, names_lost_line, Import}
 use Rattle.office_machine.proofs.NoParents.Gentle.{IsGentle, gentle-append, gentle-map}
 use Rattle.office_machine.proofs.Passed.{neither}
 use Rattle.office_machine.proofs.NoParents.Gentle.{PutsGently}
-use Rattle.office_commands.specs.declared.commands.Command.TheVariants.{Import}
 
 lines_gently : (s : Tables) (make : BudgetRow → Put) (rows : List BudgetRow) → ((r : BudgetRow) → names_lost_line s r ≡ false → IsGentle s (make r)) → list_any (names_lost_line s) rows ≡ false → AllByRecursion (λ r. IsGentle s (make r)) rows
 lines_gently s make [] h none = tt

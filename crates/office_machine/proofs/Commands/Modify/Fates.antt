@@ -1,31 +1,10 @@
 -- A replacement keeps the fates.
-use Rattle.std.specs.Prelude.{◌≡◌, ℕ, ◌+◌, Bool, true, false, cond, List, ◌∷◌, Option, Some, None, option_map, max}
-use Rattle.std.proofs.Common.{refl, sym, ap, ◌∙◌, subst}
-use Rattle.std.specs.List.{AllByRecursion}
-use Rattle.std.specs.Cmp.{nat_cmp_total}
-use Rattle.std.specs.FinMap.{nat_cmp-IsAntisymmetric}
-use Rattle.std.specs.Ordering.{nat_cmp, eq_by_cmp}
-use Rattle.office_base.specs.Tables.{same_number, Tables, envelope_key, seal_key, put_envelope, drop_seal, envelope_at, seal_at, security_at, notice_at, after_puts}
-use Rattle.office_commands.specs.declared.command.Caller.{Caller}
-use Rattle.office_commands.specs.declared.commands.Command.TheVariants.{Modify}
-use Rattle.office_values.specs.declared.refusal.Refusal.{Refusal}
-use Rattle.office_base.specs.declared.records.EnvelopeRow.{EnvelopeRow}
-use Rattle.office_base.specs.declared.records.SealRow.{SealRow}
+use Rattle.office_machine.proofs.Names.{◌≡◌, ℕ, ◌+◌, Bool, true, false, cond, List, ◌∷◌, Option, Some, None, option_map, max, refl, sym, ap, ◌∙◌, subst, AllByRecursion, nat_cmp_total, nat_cmp-IsAntisymmetric, nat_cmp, eq_by_cmp, same_number, Tables, envelope_key, seal_key, put_envelope, drop_seal, envelope_at, seal_at, security_at, notice_at, after_puts, Caller, Modify, Refusal, EnvelopeRow, SealRow, is_sealed, first_of, withdrawn, replacing, modify_tests, modify_puts, notice_of_envelope, Given, Readings, Reception, received_at, received_by, tender_decided, fate_of_tender, is_kept, EnvelopeIs, row_at-row_put, row_at-row_drop, found_key}
 use Rattle.office_base.specs.declared.records.EnvelopeState.TheVariants as envelope
 use Rattle.office_base.specs.declared.records.SecurityState.TheVariants as security
-use Rattle.office_base.specs.States.{is_sealed}
-use Rattle.office_base.specs.Rules.{first_of}
-use Rattle.tender_core.specs.Rules.Modify.{withdrawn, replacing, modify_tests, modify_puts}
-use Rattle.office_base.specs.Parents.{notice_of_envelope}
-use Rattle.office_machine.specs.Machine.{Given}
-use Rattle.office_machine.specs.Readings.{Readings}
 use Rattle.office_machine.specs.Fates as fates
-use Rattle.office_machine.specs.Fates.{Reception, received_at, received_by, tender_decided, fate_of_tender, is_kept, EnvelopeIs}
 use Rattle.office_machine.proofs.Passed.{none_holds}
-use Rattle.office_base.proofs.RowLaws.{row_at-row_put}
 use Rattle.office_machine.proofs.Rows.RowsChanged.{row_at-changed_put}
-use Rattle.office_base.proofs.RowLaws.Drops.{row_at-row_drop}
-use Rattle.office_base.proofs.RowLaws.Keyed.{found_key}
 use Rattle.office_machine.proofs.FateLaws.Views.{View, IsSound, EnvelopeFits, Change, after_change, sound_changed}
 use Rattle.office_machine.proofs.FateLaws.Added.{added, equal_numbers, sound_envelope}
 use Rattle.office_machine.proofs.FateLaws.Matched.{EnvelopesMatch, EnvelopeStands, EnvelopeKeeps, named_in, same_itself, envelopes_received}

@@ -1,18 +1,10 @@
 -- Over any tables, a modification makes no missing parent of a row, and replaces no row of another owner.
-use Rattle.std.specs.Prelude.{max, ℕ, false, ◌||◌, ◌≡◌, List, Option, Some, None}
-use Rattle.std.proofs.Common.{refl}
-use Rattle.office_base.specs.Parents.{notice_of_envelope}
-use Rattle.office_base.specs.Tables.{Tables, envelope_at}
-use Rattle.office_base.specs.declared.records.EnvelopeRow.{EnvelopeRow}
-use Rattle.office_base.specs.declared.records.NoticeRow.{NoticeRow}
-use Rattle.tender_core.specs.Rules.Modify.{modify_puts, modify_lacks, modify_rows, withdrawn, replacing}
-use Rattle.office_machine.specs.Orphans.{is_torn, receipt_is_taken}
+use Rattle.office_machine.proofs.Names.{max, ℕ, false, ◌||◌, ◌≡◌, List, Option, Some, None, refl, notice_of_envelope, Tables, envelope_at, EnvelopeRow, NoticeRow, modify_puts, modify_lacks, modify_rows, withdrawn, replacing, is_torn, receipt_is_taken, Modify}
 use Rattle.office_machine.proofs.NoParents.Gentle.{AreGentle}
 use Rattle.office_machine.proofs.Passed.{neither}
 use Rattle.office_machine.proofs.NoParents.Gentle.{PutsGently}
 use Rattle.office_machine.proofs.NoParents.Kept.{envelope_kept}
 use Rattle.office_machine.proofs.NoParents.New.{new_tender, new_seal}
-use Rattle.office_commands.specs.declared.commands.Command.TheVariants.{Modify}
 
 modify_by : (s : Tables) → receipt_is_taken s ≡ false → (digest : List ℕ → List ℕ) (t receipt : ℕ) (bytes : List ℕ) (o : Option EnvelopeRow) (n : Option NoticeRow) → envelope_at receipt s ≡ o
     → AreGentle s (modify_puts digest (record { envelope = o; notice = n; clock = s.clock }) t bytes)

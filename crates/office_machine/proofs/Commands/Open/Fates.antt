@@ -1,33 +1,10 @@
 -- An opening keeps the fates.
-use Rattle.std.specs.Prelude.{◌≡◌, ℕ, Bool, true, false, cond, ◌&&◌, List, [], ◌∷◌, map, filter, Option, Some, None, option_map, max}
-use Rattle.std.proofs.Common.{refl, sym, ap, ◌∙◌, subst}
-use Rattle.std.specs.List.{AllByRecursion}
-use Rattle.std.specs.Cmp.{nat_cmp_total}
-use Rattle.std.specs.FinMap.{nat_cmp-IsAntisymmetric}
-use Rattle.std.specs.Ordering.{nat_cmp, eq_by_cmp}
-use Rattle.office_values.specs.Ids.{same_id, id_cmp}
-use Rattle.office_values.specs.declared.refusal.Refusal.{Refusal}
-use Rattle.office_commands.specs.declared.command.Caller.{Caller}
-use Rattle.office_commands.specs.declared.commands.Command.TheVariants.{Open}
-use Rattle.office_base.specs.declared.records.NoticeRow.{NoticeRow}
-use Rattle.office_base.specs.declared.records.EnvelopeRow.{EnvelopeRow}
-use Rattle.office_base.specs.declared.records.EnvelopeState.{EnvelopeState}
-use Rattle.office_base.specs.declared.records.NoticeState.{NoticeState}
-use Rattle.office_base.specs.States.{is_sealed}
-use Rattle.office_base.specs.Rules.{first_of}
-use Rattle.office_base.specs.Transitions.{clock_put}
-use Rattle.office_base.specs.Tables.{Tables, envelope_key, envelope_at, notice_at, envelopes_of_notice, after_puts}
+use Rattle.office_machine.proofs.Names.{◌≡◌, ℕ, Bool, true, false, cond, ◌&&◌, List, [], ◌∷◌, map, filter, Option, Some, None, option_map, max, refl, sym, ap, ◌∙◌, subst, AllByRecursion, nat_cmp_total, nat_cmp-IsAntisymmetric, nat_cmp, eq_by_cmp, same_id, id_cmp, Refusal, Caller, Open, NoticeRow, EnvelopeRow, EnvelopeState, NoticeState, is_sealed, first_of, clock_put, Tables, envelope_key, envelope_at, notice_at, envelopes_of_notice, after_puts, is_sealed_envelope, opened_envelope, opened_put, opened_notice, open_tests, open_puts, Given, Readings, sealed_tender, sealed_tenders, is_of_notice, is_kept, filter_filter}
 use Rattle.office_base.specs.declared.records.EnvelopeState.TheVariants as envelope
 use Rattle.office_base.specs.declared.records.NoticeState.TheVariants as notice
 use Rattle.office_base.specs.declared.puts.Put.TheVariants as puts
-use Rattle.tender_core.specs.Rules.Open.{is_sealed_envelope, opened_envelope, opened_put, opened_notice, open_tests, open_puts}
-use Rattle.office_machine.specs.Machine.{Given}
-use Rattle.office_machine.specs.Readings.{Readings}
-use Rattle.office_machine.specs.Rule.{sealed_tender, sealed_tenders}
-use Rattle.office_machine.specs.Fates.{is_of_notice, is_kept}
 use Rattle.office_machine.proofs.Passed.{none_holds}
 use Rattle.office_machine.proofs.Rows.RowsChanged.{rows_put, changed, row_at-changed}
-use Rattle.office_base.proofs.RowLaws.Filters.{filter_filter}
 use Rattle.office_machine.proofs.FateLaws.Views.{Change, after_change}
 use Rattle.office_machine.proofs.FateLaws.Steps.{choose, cond_keeps, both_true, opening, fair_opening}
 use Rattle.office_machine.proofs.FateLaws.Seen.{seen, alike, after-append, after_envelopes}

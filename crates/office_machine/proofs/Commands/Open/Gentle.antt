@@ -1,21 +1,10 @@
 -- Over any tables, an opening makes no missing parent of a row, and replaces no row of another owner.
-use Rattle.std.specs.Prelude.{max, ℕ, ◌≡◌, List, [], ◌∷◌, Option, Some, None, map, filter}
-use Rattle.std.proofs.Common.{refl}
-use Rattle.std.specs.List.{AllByRecursion}
-use Rattle.office_commands.specs.declared.item.Item.{Item}
-use Rattle.office_base.specs.Tables.{Tables, IsSorted, envelope_at, notice_at, envelopes_of_notice}
-use Rattle.office_base.specs.declared.reading.Reading.{Reading}
-use Rattle.office_base.specs.declared.records.ClockRow.{ClockRow}
-use Rattle.office_base.specs.declared.records.EnvelopeRow.{EnvelopeRow}
-use Rattle.office_base.specs.declared.records.NoticeRow.{NoticeRow}
-use Rattle.tender_core.specs.Rules.Open.{is_sealed_envelope, open_puts, opened_put, opened_envelope, opened_notice}
-use Rattle.office_machine.specs.Rule.{sealed_tender, sealed_tenders}
+use Rattle.office_machine.proofs.Names.{max, ℕ, ◌≡◌, List, [], ◌∷◌, Option, Some, None, map, filter, refl, AllByRecursion, Item, Tables, IsSorted, envelope_at, notice_at, envelopes_of_notice, Reading, ClockRow, EnvelopeRow, NoticeRow, is_sealed_envelope, open_puts, opened_put, opened_envelope, opened_notice, sealed_tender, sealed_tenders, Open}
 use Rattle.office_machine.proofs.NoParents.Gentle.{AreGentle, gentle-append}
 use Rattle.office_machine.proofs.Rows.Keyed.{all_found}
 use Rattle.office_machine.proofs.Rows.Keyed as keyed
 use Rattle.office_machine.proofs.NoParents.Gentle.{PutsGently}
 use Rattle.office_machine.proofs.NoParents.Kept.{notice_kept, envelope_kept, all_filter}
-use Rattle.office_commands.specs.declared.commands.Command.TheVariants.{Open}
 
 opened_gently : (s : Tables) (read : List ℕ → List Item → Reading) (rows : List EnvelopeRow) → AllByRecursion (λ (e : EnvelopeRow). envelope_at e.receipt s ≡ Some e) rows
     → AreGentle s (map (opened_put read) (map (sealed_tender s) rows))

@@ -1,23 +1,11 @@
 -- Over any tables, a payment makes no missing parent of a row, and replaces no row of another owner.
-use Rattle.std.specs.Prelude.{max, ℕ, false, ◌≡◌, List, Option, Some, None}
-use Rattle.std.proofs.Common.{refl}
-use Rattle.std.specs.List.{list_any}
-use Rattle.office_base.proofs.RowLaws.Keyed.{found_key}
-use Rattle.office_base.specs.Parents.{notice_of_contract}
-use Rattle.office_base.specs.Tables.{Tables, contract_at, entries_of_contract}
-use Rattle.office_base.specs.Transitions.{with_next_release}
-use Rattle.office_base.specs.declared.records.ClockRow.{ClockRow}
-use Rattle.office_base.specs.declared.records.ContractRow.{ContractRow}
-use Rattle.office_base.specs.declared.records.NoticeRow.{NoticeRow}
-use Rattle.award_core.specs.Rules.AmendContract.{is_taken}
-use Rattle.award_core.specs.Rules.Pay.{pay_puts, pay_tests, pay_rows, payment_row}
+use Rattle.office_machine.proofs.Names.{max, ℕ, false, ◌≡◌, List, Option, Some, None, refl, list_any, found_key, notice_of_contract, Tables, contract_at, entries_of_contract, with_next_release, ClockRow, ContractRow, NoticeRow, is_taken, pay_puts, pay_tests, pay_rows, payment_row, Pay}
 use Rattle.office_machine.proofs.NoParents.Gentle.{AreGentle}
 use Rattle.office_machine.proofs.Passed.{none_holds}
 use Rattle.office_machine.proofs.Rows.Keyed as keyed
 use Rattle.office_machine.proofs.NoParents.Gentle.{PutsGently}
 use Rattle.office_machine.proofs.NoParents.Kept.{notice_kept}
 use Rattle.office_machine.proofs.NoParents.New.{new_entry}
-use Rattle.office_commands.specs.declared.commands.Command.TheVariants.{Pay}
 
 pay_by : (s : Tables) (clock : ClockRow) (t contract : ℕ) (entry : List ℕ) (amount : ℕ) (o : Option ContractRow) (n : Option NoticeRow)
     → list_any (is_taken entry) (entries_of_contract contract s) ≡ false → contract_at contract s ≡ o → notice_of_contract o s ≡ n

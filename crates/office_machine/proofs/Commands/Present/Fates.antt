@@ -1,34 +1,12 @@
 -- A submission keeps the fates.
-use Rattle.std.specs.Prelude.{◌≡◌, ℕ, ◌+◌, Bool, true, false, cond, not, List, ◌∷◌, Option, Some, None, option_map, is_some, max, nat_le}
-use Rattle.std.proofs.Common.{refl, sym, ap, ◌∙◌, subst}
-use Rattle.std.specs.List.{AllByRecursion}
-use Rattle.std.specs.Cmp.{nat_cmp_total}
-use Rattle.std.specs.Ordering.{nat_cmp, eq_by_cmp}
-use Rattle.office_base.specs.Tables.{same_number, Tables, envelope_key, seal_key, security_key, envelope_at, seal_at, security_at, notice_at, lot_at, envelopes_of_lot, after_puts}
-use Rattle.office_commands.specs.declared.command.Caller.{Caller}
-use Rattle.office_commands.specs.declared.tender.NamedSecurity.{NamedSecurity}
-use Rattle.office_commands.specs.declared.commands.Command.TheVariants.{Present}
-use Rattle.office_values.specs.declared.refusal.Refusal.{Refusal}
-use Rattle.office_base.specs.Rows.{holds_of}
-use Rattle.office_base.specs.declared.records.NoticeRow.{NoticeRow}
-use Rattle.office_base.specs.declared.records.EnvelopeRow.{EnvelopeRow}
-use Rattle.office_base.specs.declared.records.SealRow.{SealRow}
-use Rattle.office_base.specs.declared.records.SecurityRow.{SecurityRow}
+use Rattle.office_machine.proofs.Names.{◌≡◌, ℕ, ◌+◌, Bool, true, false, cond, not, List, ◌∷◌, Option, Some, None, option_map, is_some, max, nat_le, refl, sym, ap, ◌∙◌, subst, AllByRecursion, nat_cmp_total, nat_cmp, eq_by_cmp, same_number, Tables, envelope_key, seal_key, security_key, envelope_at, seal_at, security_at, notice_at, lot_at, envelopes_of_lot, after_puts, Caller, NamedSecurity, Present, Refusal, holds_of, NoticeRow, EnvelopeRow, SealRow, SecurityRow, LotState, Put, is_cancelled, is_opened, is_in_time, received, received_puts, present_tests, Given, Readings, presented, received_at, received_by, tender_decided, fate_after, fate_of_tender, first_state, security_received, security_decided, security_after, fate_of_security, is_kept, row_at-row_put}
 use Rattle.office_base.specs.declared.records.EnvelopeState.TheVariants as envelope
 use Rattle.office_base.specs.declared.records.SecurityState.TheVariants as security
 use Rattle.office_base.specs.declared.records.NoticeState.TheVariants as notice
 use Rattle.office_base.specs.declared.records.LotState.TheVariants as lot
-use Rattle.office_base.specs.declared.records.LotState.{LotState}
-use Rattle.office_base.specs.declared.puts.Put.{Put}
-use Rattle.office_base.specs.States.{is_cancelled, is_opened}
-use Rattle.office_base.specs.Transitions.{is_in_time}
-use Rattle.tender_core.specs.Rules.Present.{received, security_row, received_puts, present_tests}
-use Rattle.office_machine.specs.Machine.{Given}
-use Rattle.office_machine.specs.Readings.{Readings}
-use Rattle.office_machine.specs.Fates.{presented, received_at, received_by, tender_decided, fate_after, fate_of_tender, first_state, security_received, security_decided, security_after, fate_of_security, is_kept}
+use Rattle.tender_core.specs.Rules.Present.{security_row}
 use Rattle.office_machine.proofs.Rows.Counting.{is_live}
 use Rattle.office_machine.proofs.Passed.{none_holds, not_false}
-use Rattle.office_base.proofs.RowLaws.{row_at-row_put}
 use Rattle.office_machine.proofs.FateLaws.Views.{View, IsSound, IsSecured, EnvelopeFits}
 use Rattle.office_machine.proofs.FateLaws.Added.{added, sound_envelope, sound_security}
 use Rattle.office_machine.proofs.FateLaws.Matched.{EnvelopesMatch, EnvelopeStands, SecuritiesMatch, SecurityStands, named_in, same_itself, envelopes_received, securities_added}

@@ -1,16 +1,9 @@
 -- Over any tables, a tender makes no missing parent of a row, and replaces no row of another owner.
-use Rattle.std.specs.Prelude.{max, ℕ, Bool, List, Option}
-use Rattle.std.proofs.Common.{refl}
-use Rattle.office_commands.specs.declared.tender.NamedSecurity.{NamedSecurity}
-use Rattle.office_base.specs.Rows.{holds_of}
-use Rattle.office_base.specs.Tables.{notice_at}
-use Rattle.office_base.specs.Transitions.{put_if, is_in_time}
-use Rattle.tender_core.specs.Rules.Present.{received, seal_puts, security_put}
+use Rattle.office_machine.proofs.Names.{max, ℕ, Bool, List, Option, refl, NamedSecurity, holds_of, notice_at, put_if, is_in_time, received, seal_puts, security_put, Present}
 use Rattle.office_machine.proofs.NoParents.Gentle.{gentle-append}
 use Rattle.office_machine.proofs.NoParents.Gentle.{PutsGently}
 use Rattle.office_machine.proofs.NoParents.Kept.{gentle-if}
 use Rattle.office_machine.proofs.NoParents.New.{new_tender, new_seals, new_security}
-use Rattle.office_commands.specs.declared.commands.Command.TheVariants.{Present}
 
 pub present_gently : (notice lot : List ℕ) (security : Option NamedSecurity) (bytes : List ℕ) → PutsGently (Present notice lot security bytes)
 present_gently notice lot security bytes readings s moment caller order allowed whole =

@@ -1,43 +1,16 @@
 -- A publication keeps the accounts.
-use Rattle.std.proofs.Common.{◌≡◌, ℕ, ◌+◌, Bool, true, false, cond, ◌&&◌, List, [], ◌∷◌, ◌++◌, map, Option, Some, None, is_some, refl, sym, ◌∙◌, ap, subst, arith, append_assoc}
-use Rattle.std.specs.Prelude.{IsSome}
-use Rattle.std.specs.List.{AllByRecursion, list_any}
-use Rattle.std.specs.Ordering.{eq_by_cmp}
-use Rattle.office_values.specs.Ids.{same_id}
-use Rattle.office_commands.specs.declared.command.Caller.{Caller}
-use Rattle.office_values.specs.declared.refusal.Refusal.{Refusal}
-use Rattle.office_commands.specs.declared.notice.LateWithdrawal.{LateWithdrawal}
-use Rattle.office_commands.specs.declared.notice.LateWithdrawal.TheVariants.{Refused, Forfeits}
+use Rattle.office_machine.proofs.Names.{◌≡◌, ℕ, ◌+◌, Bool, true, false, cond, ◌&&◌, List, [], ◌∷◌, ◌++◌, map, Option, Some, None, is_some, refl, sym, ◌∙◌, ap, subst, arith, append_assoc, IsSome, AllByRecursion, list_any, eq_by_cmp, same_id, Caller, Refusal, LateWithdrawal, Forfeits, first_of, LineRow, LotRow, ContractRow, Tables, IsSorted, notice_at, find_line, find_lot, after_puts, line_key, put_notice, lot_key, lot_cmp, plus, minus, paid_under, Given, time_of, command_tests, effect, Readings, Move, Outside, Free, Reserved, Contracted, Paid, moves, reserved_for, Pot, inflow, outflow, same_pot, move_of_lot, estimate_in, equal_keys, lots_exact, equal_ids, same_itself, nat_list_cmp_total, repeats_id, NewLot, NewNotice, lot_id, sum_over, Put, is_on_no_line, reserving_line, reserving_line_put, lot_row, new_lot_put, notice_row, notice_put, publish_parts, late_puts, lots_total, sum_over-append_map, sum_over-zero}
+use Rattle.office_commands.specs.declared.notice.LateWithdrawal.TheVariants.{Refused}
 use Rattle.office_machine.proofs.Accounts.Aside.{AreAside, kept_aside, after-append}
-use Rattle.office_base.specs.Rules.{first_of}
-use Rattle.office_base.specs.declared.records.LineRow.{LineRow}
-use Rattle.office_base.specs.declared.records.LotRow.{LotRow}
-use Rattle.office_base.specs.declared.records.ContractRow.{ContractRow}
-use Rattle.office_base.specs.Tables.{Tables, IsSorted, notice_at, find_line, find_lot, after_puts, line_key, put_notice, lot_key, lot_cmp}
-use Rattle.office_base.specs.Joined.{plus, minus, paid_under}
-use Rattle.office_machine.specs.Machine.{Given, time_of, command_tests, effect}
-use Rattle.office_machine.specs.Readings.{Readings}
-use Rattle.office_machine.specs.Moves.{Move, Outside, Free, Reserved, Contracted, Paid, moves, reserved_for, Pot, inflow, outflow, same_pot, move_of_lot, estimate_in}
 use Rattle.office_commands.specs.declared.commands.Command.TheVariants as commands
 use Rattle.office_base.specs.declared.puts.Put.TheVariants as puts
-use Rattle.office_base.proofs.ExactKeys.{equal_keys, lots_exact, equal_ids, same_itself}
 use Rattle.office_machine.proofs.Rows.Keyed.{found, found_put, still_there, sum-found_agree}
 use Rattle.office_machine.proofs.Rows.Keyed as keyed
 use Rattle.office_machine.proofs.Accounts.Kept.{AccountsStand, PotsAre, LotIs, over_contracts}
 use Rattle.office_machine.proofs.Passed.{none_holds, neither, not_false, witness}
-use Rattle.std.specs.Cmp.Lexicographic.{nat_list_cmp_total}
-use Rattle.office_commands.specs.Identified.{repeats_id}
-use Rattle.office_commands.specs.declared.lot.NewLot.{NewLot}
-use Rattle.office_commands.specs.declared.notice.NewNotice.{NewNotice}
-use Rattle.office_commands.specs.Lots.{lot_id}
-use Rattle.office_base.specs.Sums.{sum_over}
-use Rattle.office_base.specs.declared.puts.Put.{Put}
-use Rattle.tender_core.specs.Rules.Publish.{is_on_no_line, reserving_line, reserving_line_put, lot_row, new_lot_put, notice_row, notice_put, publish_parts, late_puts}
-use Rattle.office_base.proofs.Orders.{lots_total}
 use Rattle.office_machine.proofs.Commands.Publish.Rows.{taken_after, enough, AreAbsent, lots_new, reserved_after}
 use Rattle.office_machine.proofs.Rows.RowsPut.{lines_put, lots_put, AreNew, after_lines, after_lots, found_after, there_after}
 use Rattle.office_machine.proofs.Accounts.Joins.{is_of}
-use Rattle.office_base.proofs.SumsOver.{sum_over-append_map, sum_over-zero}
 
 module _ (ms : List Move) (lots : List NewLot) (q : List ℕ) where
   into : (p : Pot) → inflow (map move_of_lot lots ++ ms) q p ≡ sum_over (λ (lot : NewLot). cond (same_pot Reserved p && same_id lot.line q) lot.estimate 0) lots + inflow ms q p

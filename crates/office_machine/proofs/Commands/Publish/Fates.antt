@@ -1,35 +1,10 @@
 -- A publication keeps the fates.
-use Rattle.std.specs.Prelude.{◌≡◌, ℕ, ◌⊎◌, Bool, true, false, cond, List, [], ◌∷◌, ◌++◌, map, Option, Some, None, option_map, is_some, max}
-use Rattle.std.proofs.Common.{refl, sym, ap, ◌∙◌, subst, inl, inr}
-use Rattle.std.specs.List.{AllByRecursion}
-use Rattle.std.specs.Cmp.{IsTotalOrder}
-use Rattle.std.specs.Cmp.Lexicographic.{nat_list_cmp_total}
-use Rattle.std.specs.Ordering.{is_eq, eq_by_cmp}
-use Rattle.std.specs.declared.cmp.Ordering.{Ordering}
-use Rattle.office_values.specs.Ids.{id_cmp}
-use Rattle.office_commands.specs.declared.lot.NewLot.{NewLot}
-use Rattle.office_commands.specs.declared.notice.NewNotice.{NewNotice}
-use Rattle.office_commands.specs.declared.command.Caller.{Caller}
-use Rattle.office_commands.specs.declared.commands.Command.TheVariants.{Publish}
-use Rattle.office_values.specs.declared.refusal.Refusal.{Refusal}
-use Rattle.office_commands.specs.declared.notice.LateWithdrawal.{LateWithdrawal}
-use Rattle.office_commands.specs.declared.notice.LateWithdrawal.TheVariants.{Refused, Forfeits}
-use Rattle.office_base.specs.Rows.{row_at, row_put}
-use Rattle.office_base.specs.declared.records.LotRow.{LotRow}
+use Rattle.office_machine.proofs.Names.{◌≡◌, ℕ, ◌⊎◌, Bool, true, false, cond, List, [], ◌∷◌, ◌++◌, map, Option, Some, None, option_map, is_some, max, refl, sym, ap, ◌∙◌, subst, inl, inr, AllByRecursion, IsTotalOrder, nat_list_cmp_total, is_eq, eq_by_cmp, Ordering, id_cmp, NewLot, NewNotice, Caller, Publish, Refusal, LateWithdrawal, Forfeits, row_at, row_put, LotRow, LotState, NoticeState, Put, reserving_line, reserving_line_put, lot_row, new_lot_put, notice_row, notice_put, publish_parts, late_puts, publish_puts, publish_rows, publish_tests, Tables, lot_cmp, line_key, lot_key, notice_key, put_notice, envelope_at, seal_at, security_at, lot_at, notice_at, after_puts, Given, Readings, lots_total, same_key, lots_exact, ids_exact, equal_keys, row_at-row_put}
+use Rattle.office_commands.specs.declared.notice.LateWithdrawal.TheVariants.{Refused}
 use Rattle.office_base.specs.declared.records.LotState.TheVariants as lot
-use Rattle.office_base.specs.declared.records.LotState.{LotState}
 use Rattle.office_base.specs.declared.records.NoticeState.TheVariants as notice
-use Rattle.office_base.specs.declared.records.NoticeState.{NoticeState}
 use Rattle.office_base.specs.declared.puts.Put.TheVariants as puts
-use Rattle.office_base.specs.declared.puts.Put.{Put}
-use Rattle.tender_core.specs.Rules.Publish.{reserving_line, reserving_line_put, lot_row, new_lot_put, notice_row, notice_put, publish_parts, late_puts, publish_puts, publish_rows, publish_tests}
-use Rattle.office_base.specs.Tables.{Tables, lot_cmp, line_key, lot_key, notice_key, put_notice, envelope_at, seal_at, security_at, lot_at, notice_at, after_puts}
-use Rattle.office_machine.specs.Machine.{Given}
-use Rattle.office_machine.specs.Readings.{Readings}
-use Rattle.office_base.proofs.Orders.{lots_total, same_key}
-use Rattle.office_base.proofs.ExactKeys.{lots_exact, ids_exact, equal_keys}
 use Rattle.office_machine.proofs.Passed.{none_holds}
-use Rattle.office_base.proofs.RowLaws.{row_at-row_put}
 use Rattle.office_machine.proofs.Rows.RowsChanged.{rows_put}
 use Rattle.office_machine.proofs.FateLaws.Added.{sound_published}
 use Rattle.office_machine.proofs.FateLaws.Seen.{seen, lot_state, notice_state, after-append, after_lines, after_lots, IsQuiet}

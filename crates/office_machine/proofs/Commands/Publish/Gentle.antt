@@ -1,30 +1,12 @@
 -- Over any tables, a publication makes no missing parent of a row, and replaces no row of another owner.
-use Rattle.std.specs.Prelude.{max, ℕ, Bool, true, false, cond, ◌&&◌, ◌||◌, ◌≡◌, List, [], ◌∷◌, ◌++◌, Some, is_some, map, filter}
-use Rattle.std.proofs.Common.{refl, sym, ◌∙◌, ap}
-use Rattle.std.specs.List.{AllByRecursion, list_any}
-use Rattle.office_values.specs.Ids.{same_id}
-use Rattle.office_commands.specs.declared.lot.NewLot.{NewLot}
-use Rattle.office_commands.specs.declared.notice.LateWithdrawal.TheVariants.{Refused, Forfeits}
-use Rattle.office_commands.specs.declared.notice.LateWithdrawal.{LateWithdrawal}
-use Rattle.office_commands.specs.declared.notice.NewNotice.{NewNotice}
-use Rattle.office_base.proofs.ExactKeys.{same_itself}
-use Rattle.office_base.proofs.RowLaws.Found.{of_found}
-use Rattle.office_base.proofs.RowLaws.Keyed.{found_key}
-use Rattle.office_base.specs.Tables.{Tables, lot_at, awards_of_notice, envelopes_of_notice, lots_of_notice, securities_of_notice, of_notice, lot_cmp, lot_key, late_at, compiled_at, contracts_of_notice, releases_of_notice}
-use Rattle.office_base.specs.declared.records.AwardRow.{AwardRow}
-use Rattle.office_base.specs.declared.records.ContractRow.{ContractRow}
-use Rattle.office_base.specs.declared.records.EnvelopeRow.{EnvelopeRow}
-use Rattle.office_base.specs.declared.records.LotRow.{LotRow}
-use Rattle.office_base.specs.declared.records.SecurityRow.{SecurityRow}
-use Rattle.tender_core.specs.Rules.Publish.{is_on_no_line, publish_parts, late_puts, reserving_line, reserving_line_put, new_lot_put, publish_tests, publish_rows}
-use Rattle.office_machine.specs.References.{OfNotice, OfLot, has_rows, is_named, is_there}
+use Rattle.office_machine.proofs.Names.{max, ℕ, Bool, true, false, cond, ◌&&◌, ◌||◌, ◌≡◌, List, [], ◌∷◌, ◌++◌, Some, is_some, map, filter, refl, sym, ◌∙◌, ap, AllByRecursion, list_any, same_id, NewLot, Forfeits, LateWithdrawal, NewNotice, same_itself, of_found, found_key, Tables, lot_at, awards_of_notice, envelopes_of_notice, lots_of_notice, securities_of_notice, of_notice, lot_cmp, lot_key, late_at, compiled_at, contracts_of_notice, releases_of_notice, AwardRow, ContractRow, EnvelopeRow, LotRow, SecurityRow, is_on_no_line, publish_parts, late_puts, reserving_line, reserving_line_put, new_lot_put, publish_tests, publish_rows, OfNotice, OfLot, has_rows, is_named, is_there, Publish}
+use Rattle.office_commands.specs.declared.notice.LateWithdrawal.TheVariants.{Refused}
 use Rattle.office_machine.proofs.NoParents.Gentle.{AreGentle, IsGentle, gentle-append, gentle-map}
 use Rattle.office_machine.proofs.Passed.{neither, none_holds, not_false}
 use Rattle.office_machine.proofs.Rows.Keyed as keyed
 use Rattle.office_machine.proofs.NoParents.Gentle.{PutsGently}
 use Rattle.office_machine.proofs.NoParents.Kept.{line_kept}
 use Rattle.office_machine.proofs.NoParents.New.{unnamed, none_of}
-use Rattle.office_commands.specs.declared.commands.Command.TheVariants.{Publish}
 
 fewer : {X : Type 0} (p q : X → Bool) (xs : List X) → AllByRecursion (λ x. p x ≡ false) xs → has_rows (filter (λ x. p x && q x) xs) ≡ false
 fewer p q [] h = refl

@@ -1,26 +1,8 @@
 -- The lines and the lots of a notice that is published.
-use Rattle.std.specs.Prelude.{◌≡◌, ℕ, ◌+◌, ◌-◌, ◌≤◌, ◌⊎◌, Bool, true, false, cond, List, [], ◌∷◌, map, Option, Some, None, unwrap_or}
-use Rattle.std.proofs.Common.{refl, sym, ap, ◌∙◌, subst, arith, inl, inr}
-use Rattle.std.specs.List.{list_any, AllByRecursion}
-use Rattle.std.specs.Cmp.Lexicographic.{nat_list_cmp_total}
-use Rattle.std.specs.Ordering.{eq_by_cmp}
-use Rattle.office_commands.specs.Identified.{repeats_id}
-use Rattle.office_values.specs.Ids.{id_cmp, same_id}
-use Rattle.office_commands.specs.Lots.{lot_id}
-use Rattle.office_commands.specs.declared.lot.NewLot.{NewLot}
-use Rattle.office_base.specs.Sums.{sum_over}
-use Rattle.office_base.specs.Tables.{line_key, find_line, lot_key, lot_cmp, find_lot, put_lot}
-use Rattle.tender_core.specs.Rules.Publish.{wanted, is_short, no_line, reserving_line, lot_row}
-use Rattle.office_base.specs.Joined.{appropriation_in, free_in}
-use Rattle.office_base.specs.declared.records.LineRow.{LineRow}
-use Rattle.office_base.specs.declared.records.LotRow.{LotRow}
-use Rattle.office_base.proofs.ExactKeys.{ids_exact, lots_exact, equal_keys, other_keys, equal_ids, same_itself, same_id_is}
+use Rattle.office_machine.proofs.Names.{◌≡◌, ℕ, ◌+◌, ◌-◌, ◌≤◌, ◌⊎◌, Bool, true, false, cond, List, [], ◌∷◌, map, Option, Some, None, unwrap_or, refl, sym, ap, ◌∙◌, subst, arith, inl, inr, list_any, AllByRecursion, nat_list_cmp_total, eq_by_cmp, repeats_id, id_cmp, same_id, lot_id, NewLot, sum_over, line_key, find_line, lot_key, lot_cmp, find_lot, put_lot, wanted, is_short, no_line, reserving_line, lot_row, appropriation_in, free_in, LineRow, LotRow, ids_exact, lots_exact, equal_keys, other_keys, equal_ids, same_itself, same_id_is, lots_total, row_at-row_put, sum_over-map}
 use Rattle.office_machine.proofs.Accounts.Kept.{reserved_by}
-use Rattle.office_base.proofs.Orders.{lots_total}
 use Rattle.office_machine.proofs.Passed.{neither, at_least}
-use Rattle.office_base.proofs.RowLaws.{row_at-row_put}
 use Rattle.office_machine.proofs.Rows.RowsPut.{some_has, lines_put, lots_put, AreNew, found_after, sum_over-rows_put}
-use Rattle.office_base.proofs.SumsOver.{sum_over-map}
 
 -- this amount of the line is no longer free
 pub record IsTaken (before after : Option LineRow) (amount : ℕ) : Type 0 where

@@ -1,39 +1,13 @@
 -- A signing keeps the accounts.
-use Rattle.std.proofs.Common.{◌≡◌, ℕ, ◌+◌, Bool, true, false, cond, List, ◌∷◌, Option, Some, None, refl, sym, ◌∙◌, ap, subst, ◌⊎◌, inl, inr, arith, ◌++◌}
-use Rattle.std.specs.FinMap.{nat_cmp-IsAntisymmetric}
-use Rattle.std.specs.Cmp.{nat_cmp_total}
-use Rattle.std.specs.List.{AllByRecursion}
-use Rattle.std.specs.Ordering.{nat_cmp, eq_by_cmp}
-use Rattle.office_values.specs.Ids.{same_id}
-use Rattle.office_commands.specs.declared.tender.NamedSecurity.{NamedSecurity}
-use Rattle.office_base.specs.Tables.{same_number, Tables, IsSorted, notice_at, lot_at, find_lot, find_contract, put_contract, after_puts, find_award, put_award, put_lot, award_at}
-use Rattle.office_commands.specs.declared.command.Caller.{Caller}
-use Rattle.office_values.specs.declared.refusal.Refusal.{Refusal}
-use Rattle.office_base.specs.Rules.{first_of}
-use Rattle.office_base.specs.Transitions.{with_next_release, clock_put, securities_returned, put_if}
-use Rattle.office_base.specs.declared.records.NoticeRow.{NoticeRow}
-use Rattle.office_base.specs.declared.records.LotRow.{LotRow}
-use Rattle.office_base.specs.declared.records.ContractRow.{ContractRow}
-use Rattle.office_base.specs.Joined.{plus, minus, paid_under}
-use Rattle.office_base.specs.Parents.{notice_of_award, lot_of_award, envelope_of_award, securities_of_award}
-use Rattle.office_machine.specs.Machine.{Given, time_of, command_tests, effect}
-use Rattle.office_machine.specs.Readings.{Readings}
-use Rattle.office_machine.specs.Moves.{moves, reserved_for, line_in, lot_in_award}
+use Rattle.office_machine.proofs.Names.{◌≡◌, ℕ, ◌+◌, Bool, true, false, cond, List, ◌∷◌, Option, Some, None, refl, sym, ◌∙◌, ap, subst, ◌⊎◌, inl, inr, arith, ◌++◌, nat_cmp-IsAntisymmetric, nat_cmp_total, AllByRecursion, nat_cmp, eq_by_cmp, same_id, NamedSecurity, same_number, Tables, IsSorted, notice_at, lot_at, find_lot, find_contract, put_contract, after_puts, find_award, put_award, put_lot, award_at, Caller, Refusal, first_of, with_next_release, clock_put, securities_returned, put_if, NoticeRow, LotRow, ContractRow, plus, minus, paid_under, notice_of_award, lot_of_award, envelope_of_award, securities_of_award, Given, time_of, command_tests, effect, Readings, moves, reserved_for, line_in, lot_in_award, other_keys, found_key, own_key, AwardRow, is_open, is_active, LotState, isnt_active, signed_award, contracted_lot, contract_row, tenderer_in, performance_put, sign_puts}
 use Rattle.office_commands.specs.declared.commands.Command.TheVariants as commands
 use Rattle.office_base.specs.declared.puts.Put.TheVariants as puts
 use Rattle.office_machine.proofs.Accounts.Aside.{kept_aside, aside-securities, aside-append, aside-if}
-use Rattle.office_base.proofs.ExactKeys.{other_keys}
 use Rattle.office_machine.proofs.Rows.Keyed.{found, found_put, still_there, none_before}
-use Rattle.office_base.proofs.RowLaws.Keyed.{found_key, own_key}
 use Rattle.office_machine.proofs.Rows.Keyed as keyed
 use Rattle.office_machine.proofs.Accounts.Kept.{AccountsStand, PotsAre, LotIs, AwardIs, ContractIs, NoContractIs, over_contracts, is_awarded}
 use Rattle.office_machine.proofs.Passed.{none_holds, not_false, witness, test_of, is_there, no_zero}
-use Rattle.office_base.specs.declared.records.AwardRow.{AwardRow}
-use Rattle.office_base.specs.States.{is_open, is_active}
-use Rattle.office_base.specs.declared.records.LotState.{LotState}
 use Rattle.office_base.specs.declared.records.LotState.TheVariants as lot_states
-use Rattle.award_core.specs.Rules.Fail.{isnt_active}
-use Rattle.award_core.specs.Rules.Sign.{signed_award, contracted_lot, contract_row, tenderer_in, performance_put, sign_puts}
 use Rattle.office_base.specs.declared.records.AwardState.TheVariants as award_states
 use Rattle.office_machine.proofs.Accounts.LotChanged.{joined, reserved_after, lots_are, awards_are, one_active, award_of}
 use Rattle.office_machine.proofs.Accounts.Joins.{over_contracts-new}

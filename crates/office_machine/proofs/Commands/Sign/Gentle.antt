@@ -1,26 +1,12 @@
 -- Over any tables, a signing makes no missing parent of a row, and replaces no row of another owner.
-use Rattle.std.specs.Prelude.{max, ℕ, false, ◌||◌, ◌≡◌, Option, Some, None, is_some}
-use Rattle.std.proofs.Common.{refl, ◌∙◌, ap}
-use Rattle.office_commands.specs.declared.tender.NamedSecurity.{NamedSecurity}
-use Rattle.office_base.proofs.RowLaws.Keyed.{found_key}
-use Rattle.office_base.specs.Parents.{notice_of_award, lot_of_award, envelope_of_award, securities_of_award}
-use Rattle.office_base.specs.Rows.{holds_of}
-use Rattle.office_base.specs.Tables.{Tables, IsSorted, award_at, contract_at, performance_at, securities_of_lot, entries_of_contract}
-use Rattle.office_base.specs.Transitions.{put_if, securities_returned, with_next_release}
-use Rattle.office_base.specs.declared.records.AwardRow.{AwardRow}
-use Rattle.office_base.specs.declared.records.ClockRow.{ClockRow}
-use Rattle.office_base.specs.declared.records.LotRow.{LotRow}
-use Rattle.office_base.specs.declared.records.NoticeRow.{NoticeRow}
-use Rattle.award_core.specs.Rules.Sign.{sign_puts, sign_rows, sign_lacks, performance_put, signed_award, contracted_lot}
-use Rattle.office_machine.specs.Orphans.{contract_is_taken, lacks_its_security, reserves_another}
-use Rattle.office_machine.specs.References.{OfContract, has_rows, is_named, is_there}
+use Rattle.office_machine.proofs.Names.{max, ℕ, false, ◌||◌, ◌≡◌, Option, Some, None, is_some, refl, ◌∙◌, ap, NamedSecurity, found_key, notice_of_award, lot_of_award, envelope_of_award, securities_of_award, holds_of, Tables, IsSorted, award_at, contract_at, performance_at, securities_of_lot, entries_of_contract, put_if, securities_returned, with_next_release, AwardRow, ClockRow, LotRow, NoticeRow, sign_puts, sign_rows, sign_lacks, performance_put, signed_award, contracted_lot, contract_is_taken, lacks_its_security, reserves_another, has_rows, is_named, is_there, Sign}
+use Rattle.office_machine.specs.References.{OfContract}
 use Rattle.office_machine.proofs.NoParents.Gentle.{AreGentle, gentle-append}
 use Rattle.office_machine.proofs.Passed.{neither}
 use Rattle.office_machine.proofs.Rows.Keyed as keyed
 use Rattle.office_machine.proofs.NoParents.Gentle.{PutsGently}
 use Rattle.office_machine.proofs.NoParents.Kept.{notice_kept, lot_kept, award_kept, gentle-if, lot_returned}
 use Rattle.office_machine.proofs.NoParents.New.{unnamed, no_row}
-use Rattle.office_commands.specs.declared.commands.Command.TheVariants.{Sign}
 
 sign_by : (s : Tables) (order : IsSorted s) (clock : ClockRow) (t award : ℕ) (named : Option NamedSecurity) (o : Option AwardRow) (n : Option NoticeRow) (l : Option LotRow) → contract_is_taken award s ≡ false
     → award_at award s ≡ o → notice_of_award o s ≡ n → lot_of_award o s ≡ l

@@ -1,35 +1,9 @@
 -- A withdrawal keeps the fates.
-use Rattle.std.specs.Prelude.{◌≡◌, ℕ, Bool, true, false, cond, not, ◌&&◌, List, ◌∷◌, Option, Some, None, option_map, option_and_then, is_some, max}
-use Rattle.std.proofs.Common.{refl, sym, ap, ◌∙◌, subst}
-use Rattle.std.specs.List.{AllByRecursion}
-use Rattle.std.specs.Cmp.{nat_cmp_total}
-use Rattle.std.specs.FinMap.{nat_cmp-IsAntisymmetric}
-use Rattle.std.specs.Ordering.{nat_cmp, eq_by_cmp}
-use Rattle.office_commands.specs.declared.command.Caller.{Caller}
-use Rattle.office_commands.specs.declared.commands.Command.TheVariants.{Withdraw}
-use Rattle.office_values.specs.declared.refusal.Refusal.{Refusal}
-use Rattle.office_base.specs.Rows.{holds_of}
-use Rattle.office_base.specs.declared.records.EnvelopeRow.{EnvelopeRow}
-use Rattle.office_base.specs.declared.records.SealRow.{SealRow}
-use Rattle.office_base.specs.declared.records.SecurityRow.{SecurityRow}
-use Rattle.office_base.specs.declared.records.SecurityState.{SecurityState}
-use Rattle.office_base.specs.declared.records.LateRow.{LateRow}
+use Rattle.office_machine.proofs.Names.{◌≡◌, ℕ, Bool, true, false, cond, not, ◌&&◌, List, ◌∷◌, Option, Some, None, option_map, option_and_then, is_some, max, refl, sym, ap, ◌∙◌, subst, AllByRecursion, nat_cmp_total, nat_cmp-IsAntisymmetric, nat_cmp, eq_by_cmp, Caller, Withdraw, Refusal, holds_of, EnvelopeRow, SealRow, SecurityRow, SecurityState, LateRow, is_sealed, is_held, first_of, is_past_deadline, passed_over, settled, withdrawn, taken_back_puts, cant_be_taken_back, withdraw_tests, withdraw_puts, Tables, envelope_key, envelope_at, seal_at, security_at, notice_at, find_envelope, find_security, find_seal, put_envelope, put_security, after_puts, notice_of_envelope, lot_of_envelope, security_of_envelope, late_of_envelope, Given, Readings, Reception, received_at, tender_decided, fate_of_tender, security_decided, is_kept, has_number, carries, is_effective, withdrawn_security, EnvelopeIs, row_at-row_drop, found_key}
 use Rattle.office_base.specs.declared.records.EnvelopeState.TheVariants as envelope
 use Rattle.office_base.specs.declared.records.SecurityState.TheVariants as security
-use Rattle.office_base.specs.States.{is_sealed, is_held}
-use Rattle.office_base.specs.Rules.{first_of}
-use Rattle.office_base.specs.Transitions.{is_past_deadline, passed_over, settled}
-use Rattle.tender_core.specs.Rules.Modify.{withdrawn}
-use Rattle.tender_core.specs.Rules.Withdraw.{taken_back_puts, cant_be_taken_back, withdraw_tests, withdraw_puts}
-use Rattle.office_base.specs.Tables.{Tables, envelope_key, envelope_at, seal_at, security_at, notice_at, find_envelope, find_security, find_seal, put_envelope, put_security, after_puts}
-use Rattle.office_base.specs.Parents.{notice_of_envelope, lot_of_envelope, security_of_envelope, late_of_envelope}
-use Rattle.office_machine.specs.Machine.{Given}
-use Rattle.office_machine.specs.Readings.{Readings}
-use Rattle.office_machine.specs.Fates.{Reception, received_at, tender_decided, fate_of_tender, security_decided, is_kept, has_number, carries, is_effective, withdrawn_security, EnvelopeIs}
 use Rattle.office_machine.proofs.Passed.{none_holds}
 use Rattle.office_machine.proofs.Rows.RowsChanged.{row_at-changed_put}
-use Rattle.office_base.proofs.RowLaws.Drops.{row_at-row_drop}
-use Rattle.office_base.proofs.RowLaws.Keyed.{found_key}
 use Rattle.office_machine.proofs.FateLaws.Views.{EnvelopeFits, Change, IsFair, after_change}
 use Rattle.office_machine.proofs.FateLaws.Added.{equal_numbers}
 use Rattle.office_machine.proofs.FateLaws.Matched.{EnvelopeStands, EnvelopeKeeps}

@@ -1,19 +1,8 @@
 -- Over any tables, a withdrawal makes no missing parent of a row, and replaces no row of another owner.
-use Rattle.std.specs.Prelude.{max, ℕ, Bool, true, false, ◌≡◌, Option, Some, None}
-use Rattle.std.proofs.Common.{refl}
-use Rattle.office_base.specs.Parents.{security_of_envelope}
-use Rattle.office_base.specs.Tables.{Tables, envelope_at}
-use Rattle.office_base.specs.Transitions.{passed_over, security_settled, is_late}
-use Rattle.office_base.specs.declared.records.ClockRow.{ClockRow}
-use Rattle.office_base.specs.declared.records.EnvelopeRow.{EnvelopeRow}
-use Rattle.office_base.specs.declared.records.SecurityState.TheVariants.{Returned, Forfeited}
-use Rattle.tender_core.specs.Rules.Modify.{withdrawn}
-use Rattle.tender_core.specs.Rules.Withdraw.{withdraw_puts, taken_back_puts, withdraw_rows}
-use Rattle.tender_core.specs.declared.withdraw.WithdrawRows.{WithdrawRows}
+use Rattle.office_machine.proofs.Names.{max, ℕ, Bool, true, false, ◌≡◌, Option, Some, None, refl, security_of_envelope, Tables, envelope_at, passed_over, security_settled, is_late, ClockRow, EnvelopeRow, Returned, Forfeited, withdrawn, withdraw_puts, taken_back_puts, withdraw_rows, WithdrawRows, Withdraw}
 use Rattle.office_machine.proofs.NoParents.Gentle.{AreGentle}
 use Rattle.office_machine.proofs.NoParents.Gentle.{PutsGently}
 use Rattle.office_machine.proofs.NoParents.Kept.{envelope_kept, gentle-if, security_settles}
-use Rattle.office_commands.specs.declared.commands.Command.TheVariants.{Withdraw}
 
 taken_back_by : (s : Tables) (clock : ClockRow) (t receipt : ℕ) (e : EnvelopeRow) → envelope_at receipt s ≡ Some e → (late : Bool) → AreGentle s (taken_back_puts clock t e (security_of_envelope (Some e) s) late)
 taken_back_by s clock t receipt e is false =
