@@ -183,6 +183,24 @@ def test_before_start(trial):
     trial.says(CRITICAL, "can't be read as TOML", "--before-start")
 
 
+def test_lost(trial):
+    """A file without an office is critical before a start if a copy has accepted commands. It isn't without such a copy, and no check changes the files."""
+    trial.says(OK, "may begin", "lost", "--before-start")
+    trial.make_copy(HOUR, 0)
+    trial.says(OK, "may begin", "lost", "--before-start")
+    trial.make_copy(60, time.time())
+    trial.says(CRITICAL, "has no office, but .*office-", "--before-start")
+    with contextlib.closing(sqlite3.connect(trial.file)) as empty:
+        empty.executescript("PRAGMA journal_mode = wal; CREATE TABLE a (b); DROP TABLE a;")
+    before = trial.content()
+    trial.says(CRITICAL, "has no office, but .*office-", "lost", "--before-start")
+    assert trial.content() == before
+    trial.make_office(trial.file, time.time())
+    trial.says(OK, "has an office", "lost", "--before-start")
+    trial.file.write_bytes(b"no database")
+    trial.says(OK, "has an office", "lost", "--before-start")
+
+
 def test_room(trial):
     """Less than the required space is a warning, and less than half of it is critical. Before the start neither prevents the start. A file that is nearly as
     large as the bound of memory is a warning. systemd knows that bound, unless an option says it."""
