@@ -1,14 +1,5 @@
 -- If the test of the balances succeeds, they add up.
-use Rattle.std.specs.Prelude.{◌≡◌, Bool, true, List, [], ◌∷◌, map}
-use Rattle.std.specs.List.{AllByRecursion, list_all}
-use Rattle.std.proofs.Common.{sym, ap, ◌∙◌}
-use Rattle.std.proofs.lemmas.Bool.{and_parts, eqb-true}
-use Rattle.office_base.specs.Joined.{ledger_of, ledger_row, pots_of}
-use Rattle.office_base.specs.Tables.{Tables}
-use Rattle.office_base.specs.declared.ledger.LedgerRow.{LedgerRow}
-use Rattle.office_base.specs.declared.ledger.Pots.{Pots}
-use Rattle.office_base.specs.declared.records.LineRow.{LineRow}
-use Rattle.office_desk.specs.Balances.{LedgerAddsUp, PotsAddUp, RowAddsUp, pots_add_up, row_adds_up}
+use Rattle.office_desk.proofs.Names.{◌≡◌, Bool, true, List, [], ◌∷◌, map, AllByRecursion, list_all, sym, ap, ◌∙◌, and_parts, eqb-true, ledger_of, ledger_row, pots_of, Tables, LedgerRow, Pots, LineRow, LedgerAddsUp, PotsAddUp, RowAddsUp, pots_add_up, row_adds_up}
 
 pots_even : (pots : Pots) → pots_add_up pots ≡ true → PotsAddUp pots
 pots_even pots is = eqb-true _ _ is

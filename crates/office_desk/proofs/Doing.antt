@@ -1,20 +1,5 @@
 -- A command that was asked for is done as a whole, or nothing is done.
-use Rattle.std.specs.Prelude.{◌≡◌, ℕ, ◌⊎◌, true, List, Result, Ok, Err, IsErr, IfErr}
-use Rattle.std.proofs.Common.{ap, ◌∙◌, subst, inl, inr}
-use Rattle.office_commands.specs.declared.command.Caller.{Caller}
-use Rattle.office_commands.specs.declared.commands.Command.{Command}
-use Rattle.office_values.specs.declared.refusal.Refusal.{Refusal}
-use Rattle.office_values.specs.declared.refusal.Refusal.TheVariants.{Unavailable}
-use Rattle.office_values.specs.declared.settings.Publisher.{Publisher}
-use Rattle.office_base.specs.Tables.{Tables, after_puts}
-use Rattle.office_base.specs.Shelves.{Meaning, Alters, Keeps}
-use Rattle.office_base.specs.declared.puts.Put.{Put}
-use Rattle.office_publications.specs.Keeping.{KeepsItsReleases, next_with_merges}
-use Rattle.office_plans.specs.Asking.{given}
-use Rattle.office_plans.specs.Plans.{Plan}
-use Rattle.office_plans.specs.Published.{IsPlan}
-use Rattle.office_desk.specs.MovedLines.{MovesAddUp}
-use Rattle.office_desk.specs.Steps.{Does, IsOfficeAfter}
+use Rattle.office_desk.proofs.Names.{◌≡◌, ℕ, ◌⊎◌, true, List, Result, Ok, Err, IsErr, IfErr, ap, ◌∙◌, subst, inl, inr, Caller, Command, Refusal, Unavailable, Publisher, Tables, after_puts, Meaning, Alters, Keeps, Put, KeepsItsReleases, next_with_merges, given, Plan, IsPlan, MovesAddUp, Does, IsOfficeAfter}
 
 module _ {S : Type 0} (M : Meaning S) (publisher : Publisher) (moment : ℕ) (caller : Caller) (command : Command) where
   -- The command was refused.

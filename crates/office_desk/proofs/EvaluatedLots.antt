@@ -1,16 +1,5 @@
 -- The lines of a lot in an evaluation.
-use Rattle.std.specs.Prelude.{◌≡◌, ℕ, Bool, true, false, cond, ◌||◌, List, [], ◌++◌, map}
-use Rattle.std.specs.List.{flat_map}
-use Rattle.std.proofs.Common.{sym, ap, ◌∙◌}
-use Rattle.office_commands.specs.Rights.{is_clerk}
-use Rattle.office_commands.specs.declared.command.Caller.{Caller}
-use Rattle.office_base.specs.Tables.{Tables, envelopes_of_lot}
-use Rattle.office_base.specs.declared.records.AwardRow.{AwardRow}
-use Rattle.office_base.specs.declared.records.EnvelopeRow.{EnvelopeRow}
-use Rattle.office_base.specs.declared.records.LotRow.{LotRow}
-use Rattle.tender_papers.specs.Evaluation.{award_line, finding_line, lot_state_line}
-use Rattle.office_machine.specs.Evaluation.{awards_of_lot, evaluated_lot, evaluated_tenders, has_outcome, lot_told}
-use Rattle.office_plans.specs.Replies.{evaluated_lines, finding_of}
+use Rattle.office_desk.proofs.Names.{◌≡◌, ℕ, Bool, true, false, cond, ◌||◌, List, [], ◌++◌, map, flat_map, sym, ap, ◌∙◌, is_clerk, Caller, Tables, envelopes_of_lot, AwardRow, EnvelopeRow, LotRow, award_line, finding_line, lot_state_line, awards_of_lot, evaluated_lot, evaluated_tenders, has_outcome, lot_told, evaluated_lines, finding_of}
 use Rattle.office_desk.proofs.Listed.{with_both, with_none}
 
 -- The lines of tenders, and those of a lot's awards.

@@ -1,8 +1,5 @@
 -- Lists that are built element by element.
-use Rattle.std.specs.Prelude.{◌≡◌, ℕ, ◌+◌, ◌<◌, List, [], ◌∷◌, ◌++◌, get_or, length, take}
-use Rattle.std.proofs.Common.{sym, ap, append_assoc, append-nil, ◌∙◌}
-use Rattle.std.specs.List.{flat_map}
-use Rattle.std.proofs.lemmas.List.{flat_map_more, take_more}
+use Rattle.office_desk.proofs.Names.{◌≡◌, ℕ, ◌+◌, ◌<◌, List, [], ◌∷◌, ◌++◌, get_or, length, take, sym, ap, append_assoc, append-nil, ◌∙◌, flat_map, flat_map_more, take_more}
 
 -- The list after one more element is written.
 pub one_more : {X A : Type 0} (f : X → List A) (front : List A) (xs : List X) (i : ℕ) (x : X) (old new here : List A) → i < length xs → x ≡ get_or xs i x

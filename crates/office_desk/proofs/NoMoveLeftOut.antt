@@ -1,20 +1,7 @@
 -- Each line that a move names is one that is tested.
-use Rattle.std.specs.Prelude.{◌≡◌, ℕ, ◌-◌, Bool, true, false, cond, ◌&&◌, List, [], ◌∷◌, map, filter, Option, Some, None, nat_le}
-use Rattle.std.specs.List.{AllByRecursion, list_all}
-use Rattle.std.proofs.Common.{refl, ap, ◌∙◌}
-use Rattle.office_commands.specs.declared.budget.BudgetRow.{BudgetRow}
+use Rattle.office_desk.proofs.Names.{◌≡◌, ℕ, ◌-◌, Bool, true, false, cond, ◌&&◌, List, [], ◌∷◌, map, filter, Option, Some, None, nat_le, AllByRecursion, list_all, refl, ap, ◌∙◌, BudgetRow, ChangeKind, NewLot, line_of_lot, lot_of_award, lot_of_contract, Tables, award_at, contract_at, envelopes_of_lot, line_at, lot_at, lots_of_notice, notice_at, EnvelopeRow, LotRow, is_open_lot, price_of, winner, Free, Move, Reserved, line_in, move_back, move_of_award, move_of_change, move_of_lot, move_of_row, reserved_for, NoMoveIsLeftOut, held_line_adds_up, line_adds_up, may_move}
 use Rattle.office_commands.specs.declared.commands.Command.TheVariants as commands
-use Rattle.office_commands.specs.declared.contract.ChangeKind.{ChangeKind}
 use Rattle.office_commands.specs.declared.contract.ChangeKind.TheVariants as change_kinds
-use Rattle.office_commands.specs.declared.lot.NewLot.{NewLot}
-use Rattle.office_base.specs.Parents.{line_of_lot, lot_of_award, lot_of_contract}
-use Rattle.office_base.specs.Tables.{Tables, award_at, contract_at, envelopes_of_lot, line_at, lot_at, lots_of_notice, notice_at}
-use Rattle.office_base.specs.declared.records.EnvelopeRow.{EnvelopeRow}
-use Rattle.office_base.specs.declared.records.LotRow.{LotRow}
-use Rattle.tender_core.specs.Rules.Cancel.{is_open_lot}
-use Rattle.award_core.specs.Rules.Award.{price_of, winner}
-use Rattle.office_machine.specs.Moves.{Free, Move, Reserved, line_in, move_back, move_of_award, move_of_change, move_of_lot, move_of_row, reserved_for}
-use Rattle.office_desk.specs.MovedLines.{NoMoveIsLeftOut, held_line_adds_up, line_adds_up, may_move}
 
 both : (a b : Bool) → (a && b) ≡ true → (a ≡ true) × (b ≡ true)
 both true b e = (refl, e)

@@ -1,12 +1,5 @@
 -- The tenders in the minutes, one after another.
-use Rattle.std.specs.Prelude.{◌≡◌, ℕ, ◌+◌, ◌<◌, List, [], ◌∷◌, ◌++◌, get_or, length, map, take}
-use Rattle.std.proofs.Common.{sym, ap, ◌∙◌}
-use Rattle.std.proofs.lemmas.List.{map-append, take_more}
-use Rattle.office_base.specs.declared.records.EnvelopeRow.{EnvelopeRow}
-use Rattle.office_base.specs.declared.records.TendererRow.{TendererRow}
-use Rattle.office_machine.specs.Sights.{minuted}
-use Rattle.office_plans.specs.Replies.{minuted_tender}
-use Rattle.tender_papers.specs.declared.minutes.OpenedTender.{OpenedTender}
+use Rattle.office_desk.proofs.Names.{◌≡◌, ℕ, ◌+◌, ◌<◌, List, [], ◌∷◌, ◌++◌, get_or, length, map, take, sym, ap, ◌∙◌, map-append, take_more, EnvelopeRow, TendererRow, minuted, minuted_tender, OpenedTender}
 
 -- These tenders as the minutes show them.
 abbrev pub opened_tenders : List TendererRow → List EnvelopeRow → List OpenedTender

@@ -1,9 +1,5 @@
 -- A package of stored releases is the package of the releases themselves.
-use Rattle.std.specs.Prelude.{◌<◌, List, [], ◌∷◌, length}
-use Rattle.std.proofs.Common.{arith}
-use Rattle.serde_json.specs.Data.{Data}
-use Rattle.ocds_release.specs.KeptReleases.{AreKept}
-use Rattle.office_base.specs.declared.records.ReleaseRow.{ReleaseRow}
+use Rattle.office_desk.proofs.Names.{◌<◌, List, [], ◌∷◌, length, arith, Data, AreKept, ReleaseRow}
 
 -- A property of every nonempty list of releases is a property of the releases that these rows store.
 pub filled : (P : List Data → Type 0) (rows : List ReleaseRow) (ds : List Data) → AreKept rows ds → 0 < length rows

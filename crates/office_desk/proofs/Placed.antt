@@ -1,18 +1,5 @@
 -- Releases that are taken one after another by their places.
-use Rattle.std.specs.Prelude.{◌≡◌, ◌<◌, ◌-◌, ℕ, suc, ◌+◌, List, [], ◌∷◌, Option, Some, None, IfSome, All, length, map, get_or, slice_get}
-use Rattle.std.proofs.Common.{refl, sym, ap, ◌∙◌, subst, arith, inl, inr}
-use Rattle.std.specs.List.{AllByRecursion}
-use Rattle.std.proofs.lemmas.List.{length-map}
-use Rattle.std.proofs.lemmas.List.Elements.{All-from_recursion, All-get_or}
-use Rattle.std.proofs.lemmas.Option.{slice_get_cases}
-use Rattle.ocds_release.specs.Opened.{moment_of, moment_of_last}
-use Rattle.office_base.specs.declared.records.ReleaseRow.{ReleaseRow}
-use Rattle.office_base.specs.Tables.{Tables, release_at, releases_of_notice}
-use Rattle.office_plans.proofs.OneByOne.{as_many}
-use Rattle.office_publications.specs.Merges.{AreSoMany}
-use Rattle.office_publications.specs.Told.{AreAllThere, IsInRange}
-use Rattle.office_desk.specs.Extent.{IsExtentOf, IsWritten}
-use Rattle.office_desk.specs.declared.queries.packages.texts.Extent.{Extent}
+use Rattle.office_desk.proofs.Names.{◌≡◌, ◌<◌, ◌-◌, ℕ, suc, ◌+◌, List, [], ◌∷◌, Option, Some, None, IfSome, All, length, map, get_or, slice_get, refl, sym, ap, ◌∙◌, subst, arith, inl, inr, AllByRecursion, length-map, All-from_recursion, All-get_or, slice_get_cases, moment_of, moment_of_last, ReleaseRow, Tables, release_at, releases_of_notice, as_many, AreSoMany, AreAllThere, IsInRange, IsExtentOf, IsWritten, Extent}
 
 -- The moment of the last of these rows, which follow others whose last one has this moment.
 abbrev pub last_after : Option ℕ → List ReleaseRow → Option ℕ

@@ -1,13 +1,5 @@
 -- The rows that the package of a notice's record shows exist.
-use Rattle.std.specs.Prelude.{◌≡◌, ℕ, List, Option, Some, Result, Ok, Err, OnOk}
-use Rattle.std.proofs.Common.{subst}
-use Rattle.ocds_release.specs.Texts.{ocid_text}
-use Rattle.office_values.specs.declared.settings.Publisher.{Publisher}
-use Rattle.office_base.specs.declared.records.NoticeRow.{NoticeRow}
-use Rattle.office_base.specs.Tables.{Tables, notice_at}
-use Rattle.office_machine.specs.Counted.{releases_in}
-use Rattle.office_publications.specs.Merges.{AreSoMany, HasMerge}
-use Rattle.office_publications.specs.Told.{AreAllThere, HasReleases}
+use Rattle.office_desk.proofs.Names.{◌≡◌, ℕ, List, Option, Some, Result, Ok, Err, OnOk, subst, ocid_text, Publisher, NoticeRow, Tables, notice_at, releases_in, AreSoMany, HasMerge, AreAllThere, HasReleases}
 
 -- A fact that holds without the result holds of the result.
 pub on_ok_any : {T E : Type 0} (result : Result T E) (P : Type 0) → P → OnOk result P

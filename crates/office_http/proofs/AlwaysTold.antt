@@ -1,38 +1,8 @@
 -- The answer and the tables after it, for any tables in a store.
-use Rattle.std.proofs.Common.{◌≡◌, ℕ, ◌⊎◌, inl, inr, Bool, true, false, not, ◌&&◌, List, Option, Some, None, Result, Ok, Err, refl, sym, ap, ◌∙◌, subst, true≢false}
-use Rattle.std.specs.Prelude.{is_none}
-use Rattle.office_commands.specs.Queries.{query_kind_of}
-use Rattle.office_commands.specs.declared.command.Caller.{Caller}
-use Rattle.office_commands.specs.declared.commands.Command.{Command}
-use Rattle.office_commands.specs.declared.queries.Query.{Query}
-use Rattle.office_values.specs.declared.refusal.Refusal.{Refusal}
-use Rattle.office_values.specs.declared.refusal.Refusal.TheVariants.{Unavailable}
-use Rattle.office_values.specs.declared.settings.Settings.{Settings}
-use Rattle.office_base.specs.Tables.{Tables, after_puts}
-use Rattle.office_base.specs.declared.puts.Put.{Put}
-use Rattle.office_machine.specs.Machine.{Given, refusal_of}
-use Rattle.office_machine.specs.Requests.{reply_by}
+use Rattle.office_http.proofs.Names.{◌≡◌, ℕ, ◌⊎◌, inl, inr, Bool, true, false, not, ◌&&◌, List, Option, Some, None, Result, Ok, Err, refl, sym, ap, ◌∙◌, subst, true≢false, is_none, query_kind_of, Caller, Command, Query, Refusal, Unavailable, Settings, Tables, after_puts, Put, Given, refusal_of, reply_by, packages, publishing, office_kept, given, Plan, text_of, IsPlan, IsSeen, Needs, RequestView, asked_by_route, routed, Asked, Allow, Route, credentials_of, Meant, Refuses, Gives, Sees, meant, meant_asked, meant_at, meant_by, who, KeepsMeant, NeedsMeant, WritesMeant, answer_bytes, is_accepted, is_done, reply_to_meant, seen_as, tables_after, tables_left, told_as, unavailable_text, response_of, Json}
 use Rattle.office_machine.specs.Sights.{told}
-use Rattle.office_publications.specs.Packages.{packages}
-use Rattle.office_publications.specs.Publishing.{publishing}
-use Rattle.office_publications.specs.Standing.{office_kept}
-use Rattle.office_plans.specs.Asking.{given}
-use Rattle.office_plans.specs.Plans.{Plan}
-use Rattle.office_plans.specs.Replies.{text_of}
-use Rattle.office_plans.specs.Published.{IsPlan}
-use Rattle.office_desk.specs.Steps.{IsSeen, Needs}
-use Rattle.office_wire.specs.Request.{RequestView}
-use Rattle.office_requests.specs.Asking.{asked_by_route}
-use Rattle.office_requests.specs.Routing.{routed}
-use Rattle.office_requests.specs.declared.asked.Asked.{Asked}
-use Rattle.office_requests.specs.declared.route.Allow.{Allow}
-use Rattle.office_requests.specs.declared.route.Route.{Route}
-use Rattle.office_http.specs.Credentials.{credentials_of}
-use Rattle.office_http.specs.Meaning.{Meant, Refuses, Gives, Sees, meant, meant_asked, meant_at, meant_by, who}
-use Rattle.office_http.specs.Answering.{KeepsMeant, NeedsMeant, WritesMeant, answer_bytes, is_accepted, is_done, reply_to_meant, seen_as, tables_after, tables_left, told_as, unavailable_text}
-use Rattle.office_http.specs.Response.{response_of}
 use Rattle.office_http.specs.declared.reply.Reply as replies
-use Rattle.office_http.specs.declared.reply.Reply.TheVariants.{Json, Refused}
+use Rattle.office_http.specs.declared.reply.Reply.TheVariants.{Refused}
 use Rattle.office_http.proofs.ToldSteps.{accepted_as, refused_as, told_seen}
 
 module _ (settings : Settings) (s : Tables) (moment : ℕ) (text : List ℕ) (Holds : Tables → Type 0) where

@@ -1,36 +1,9 @@
 -- One answer to the meaning of a request: a refusal, the response, or `Unavailable`.
-use Rattle.std.proofs.Common.{◌≡◌, ℕ, ◌⊎◌, inl, inr, true, false, List, ◌∷◌, Option, Some, None, Result, Ok, Err, refl, sym, ap, ◌∙◌, subst}
-use Rattle.std.specs.Prelude.{is_none}
-use Rattle.office_commands.specs.Queries.{query_kind_of}
-use Rattle.office_commands.specs.declared.command.Caller.{Caller}
-use Rattle.office_commands.specs.declared.commands.Command.{Command}
-use Rattle.office_commands.specs.declared.queries.Query.{Query}
+use Rattle.office_http.proofs.Names.{◌≡◌, ℕ, ◌⊎◌, inl, inr, true, false, List, ◌∷◌, Option, Some, None, Result, Ok, Err, refl, sym, ap, ◌∙◌, subst, is_none, query_kind_of, Caller, Command, Query, Refusal, Unavailable, Settings, Tables, after_puts, Meaning, Put, Given, IsRegistered, refusal_of, reply_by, KeepsItsReleases, KeepsReleases, KeptStepsReach, ReleasesStayKept, next_with_merges, packages, publishing, IsReached, office_kept, given, Plan, text_of, IsPlan, IsPut, IsSeen, Needs, Allow, Meant, Gives, Sees, IsWholeAfter, StopsAfter, is_accepted, told_as, seen_as, reply_to_meant, tables_after, unavailable_text, Answered, HoldsStanding, response_of, Json}
 use Rattle.office_commands.specs.declared.queries.Query.TheVariants as queries
-use Rattle.office_values.specs.declared.refusal.Refusal.{Refusal}
-use Rattle.office_values.specs.declared.refusal.Refusal.TheVariants.{Unavailable}
-use Rattle.office_values.specs.declared.settings.Settings.{Settings}
-use Rattle.office_base.specs.Tables.{Tables, after_puts}
-use Rattle.office_base.specs.Shelves.{Meaning}
-use Rattle.office_base.specs.declared.puts.Put.{Put}
-use Rattle.office_machine.specs.Machine.{Given, IsRegistered, refusal_of}
-use Rattle.office_machine.specs.Requests.{reply_by}
 use Rattle.office_machine.specs.Sights.{told}
-use Rattle.office_publications.specs.Keeping.{KeepsItsReleases, KeepsReleases, KeptStepsReach, ReleasesStayKept, next_with_merges}
-use Rattle.office_publications.specs.Packages.{packages}
-use Rattle.office_publications.specs.Publishing.{publishing}
-use Rattle.office_publications.specs.Standing.{IsReached, office_kept}
-use Rattle.office_plans.specs.Asking.{given}
-use Rattle.office_plans.specs.Plans.{Plan}
-use Rattle.office_plans.specs.Replies.{text_of}
-use Rattle.office_plans.specs.Published.{IsPlan, IsPut}
-use Rattle.office_desk.specs.Steps.{IsSeen, Needs}
-use Rattle.office_requests.specs.declared.route.Allow.{Allow}
-use Rattle.office_http.specs.Meaning.{Meant, Gives, Sees}
-use Rattle.office_http.specs.Answering.{IsWholeAfter, StopsAfter, is_accepted, told_as, seen_as, reply_to_meant, tables_after, unavailable_text}
-use Rattle.office_http.specs.Inside.Meant.{Answered, HoldsStanding}
-use Rattle.office_http.specs.Response.{response_of}
 use Rattle.office_http.specs.declared.reply.Reply as replies
-use Rattle.office_http.specs.declared.reply.Reply.TheVariants.{Json, Refused}
+use Rattle.office_http.specs.declared.reply.Reply.TheVariants.{Refused}
 use Rattle.office_http.proofs.LeftSteps.{leaves_accepted, leaves_either, stays_refused, stays_unavailable}
 use Rattle.office_http.proofs.ToldSteps.{accepted_as, refused_as, told_seen}
 

@@ -1,30 +1,6 @@
 -- The refusals that are certain.
-use Rattle.std.proofs.Common.{◌≡◌, ℕ, ◌⊎◌, inl, inr, Bool, true, false, not, ◌||◌, if◌then◌else◌, List, Option, Some, None, Result, Ok, Err, refl, sym, ap, ◌∙◌, subst}
-use Rattle.std.specs.Prelude.{option_map}
-use Rattle.office_commands.specs.declared.command.Caller.{Caller}
-use Rattle.office_commands.specs.declared.commands.Command.{Command}
-use Rattle.office_commands.specs.declared.queries.Query.{Query}
-use Rattle.office_values.specs.declared.refusal.Refusal.{Refusal}
-use Rattle.office_values.specs.declared.refusal.Refusal.TheVariants.{Forbidden, Unavailable}
-use Rattle.office_values.specs.declared.settings.Settings.{Settings}
-use Rattle.office_base.specs.Tables.{Tables}
-use Rattle.office_machine.specs.Machine.{refusal_of}
+use Rattle.office_http.proofs.Names.{◌≡◌, ℕ, ◌⊎◌, inl, inr, Bool, true, false, not, ◌||◌, if◌then◌else◌, List, Option, Some, None, Result, Ok, Err, refl, sym, ap, ◌∙◌, subst, option_map, Caller, Command, Query, Refusal, Forbidden, Unavailable, Settings, Tables, refusal_of, given, gathers_lines, text_of, no_packages, RequestView, asked_by, asked_by_route, is_read_at_once, may_ask, query_of, routed, Asked, Allow, Route, is_found, refusal_of_answer, refusal_meant, takes_none, credentials_of, Meant, Refuses, Gives, Sees, meant, meant_asked, meant_at, meant_by, who, response_of}
 use Rattle.office_machine.specs.Sights.{told}
-use Rattle.office_plans.specs.Asking.{given}
-use Rattle.office_plans.specs.Published.{gathers_lines}
-use Rattle.office_plans.specs.Replies.{text_of}
-use Rattle.office_desk.specs.Steps.{no_packages}
-use Rattle.office_wire.specs.Request.{RequestView}
-use Rattle.office_requests.specs.Asking.{asked_by, asked_by_route, is_read_at_once, may_ask}
-use Rattle.office_requests.specs.Parameters.{query_of}
-use Rattle.office_requests.specs.Routing.{routed}
-use Rattle.office_requests.specs.declared.asked.Asked.{Asked}
-use Rattle.office_requests.specs.declared.route.Allow.{Allow}
-use Rattle.office_requests.specs.declared.route.Route.{Route}
-use Rattle.office_http.specs.Certain.{is_found, refusal_of_answer, refusal_meant, takes_none}
-use Rattle.office_http.specs.Credentials.{credentials_of}
-use Rattle.office_http.specs.Meaning.{Meant, Refuses, Gives, Sees, meant, meant_asked, meant_at, meant_by, who}
-use Rattle.office_http.specs.Response.{response_of}
 use Rattle.office_http.specs.declared.reply.Reply.TheVariants.{Refused}
 
 -- A refusal, with the method of the path if the request has another one.

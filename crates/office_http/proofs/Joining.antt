@@ -1,7 +1,5 @@
 -- Texts that are joined one after another.
-use Rattle.std.proofs.Common.{◌≡◌, ℕ, ◌+◌, ◌-◌, List, [], ◌++◌, append_assoc, take, drop, length, sym, ap, ◌∙◌, append-nil, arith}
-use Rattle.std.proofs.Math.Seq.{drop-append_seam, take-append_seam}
-use Rattle.std.proofs.lemmas.List.{length-append}
+use Rattle.office_http.proofs.Names.{◌≡◌, ℕ, ◌+◌, ◌-◌, List, [], ◌++◌, append_assoc, take, drop, length, sym, ap, ◌∙◌, append-nil, arith, drop-append_seam, take-append_seam, length-append}
 
 -- A text that was added is the text to which it is equal.
 pub put_as : (old new text shown : List ℕ) → new ≡ old ++ text → text ≡ shown → new ≡ old ++ shown

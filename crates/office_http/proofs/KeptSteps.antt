@@ -1,25 +1,5 @@
 -- The commands of requests are accepted one by one, and so they are kept.
-use Rattle.std.proofs.Common.{◌≡◌, ℕ, Bool, true, false, List, [], ◌∷◌, Option, Some, None, refl}
-use Rattle.office_values.specs.declared.refusal.Refusal.{Refusal}
-use Rattle.office_values.specs.declared.settings.Publisher.{Publisher}
-use Rattle.office_values.specs.declared.settings.Settings.{Settings}
-use Rattle.office_base.specs.Tables.{Tables}
-use Rattle.office_machine.specs.Accounts.{AccountsAreKept}
-use Rattle.office_machine.specs.Fates.{TendersAreKept, SecuritiesAreKept, PerformancesAreKept}
-use Rattle.office_machine.specs.Machine.{CanBeGiven, Given, Reaches, refusal_of}
-use Rattle.office_machine.specs.Requests.{accepted_by}
-use Rattle.office_publications.specs.Keeping.{KeptStepsReach}
-use Rattle.office_publications.specs.Publishing.{publishing}
-use Rattle.office_publications.specs.Standing.{office_kept}
-use Rattle.office_plans.specs.Asking.{given}
-use Rattle.office_desk.specs.Steps.{OfficeIsKept}
-use Rattle.office_wire.specs.Request.{RequestView}
-use Rattle.office_wire.specs.Runs.{Step, office_left}
-use Rattle.office_http.specs.Meaning.{Meant, Refuses, Gives, Sees, meant}
-use Rattle.office_http.specs.Answering.{Held, meant_in, office_answers, tables_after, tables_left}
-use Rattle.office_http.specs.Joined.{RequestsAreKept, StepsAreKept, joined_meant, accepted_steps, joined_with}
-use Rattle.office_requests.specs.Asking.{WhatIsAskedCanBeGiven}
-use Rattle.office_http.specs.Inside.Meant.{CanBeMeant}
+use Rattle.office_http.proofs.Names.{◌≡◌, ℕ, Bool, true, false, List, [], ◌∷◌, Option, Some, None, refl, Refusal, Publisher, Settings, Tables, AccountsAreKept, TendersAreKept, SecuritiesAreKept, PerformancesAreKept, CanBeGiven, Given, Reaches, refusal_of, accepted_by, KeptStepsReach, publishing, office_kept, given, OfficeIsKept, RequestView, Step, office_left, Meant, Refuses, Gives, Sees, meant, Held, meant_in, office_answers, tables_after, tables_left, RequestsAreKept, StepsAreKept, joined_meant, accepted_steps, joined_with, WhatIsAskedCanBeGiven, CanBeMeant}
 use Rattle.office_http.proofs.MeantSteps.{meant_can}
 
 -- The laws of the specification and of the publications that this proof uses.

@@ -1,17 +1,5 @@
 -- Every caller is known: the public, the clerk, or a registered tenderer.
-use Rattle.std.proofs.Common.{◌≡◌, ℕ, Bool, true, false, List, Option, Some, None, Result, Ok, Err, refl, sym, subst}
-use Rattle.std.specs.Prelude.{IsSome, if◌then◌else◌}
-use Rattle.office_values.specs.declared.refusal.Refusal.{Refusal}
-use Rattle.office_values.specs.declared.refusal.Refusal.TheVariants.{BadKey}
-use Rattle.office_values.specs.declared.settings.Settings.{Settings}
-use Rattle.office_values.specs.Fields.{is_id}
-use Rattle.office_commands.specs.declared.command.Caller.{Caller}
-use Rattle.office_commands.specs.declared.command.Caller.TheVariants.{Clerk, Tenderer}
-use Rattle.office_base.specs.Tables.{Tables, find_tenderer, tenderer_at}
-use Rattle.office_base.specs.declared.records.TendererRow.{TendererRow}
-use Rattle.office_machine.specs.Machine.{IsRegistered}
-use Rattle.office_desk.specs.Callers.{caller_of, clerk_with_key, fits_key, is_clerk_name, tenderer_with_key, tenderer_named}
-use Rattle.office_http.specs.Meaning.{who}
+use Rattle.office_http.proofs.Names.{◌≡◌, ℕ, Bool, true, false, List, Option, Some, None, Result, Ok, Err, refl, sym, subst, IsSome, if◌then◌else◌, Refusal, BadKey, Settings, is_id, Caller, Clerk, Tenderer, Tables, find_tenderer, tenderer_at, TendererRow, IsRegistered, caller_of, clerk_with_key, fits_key, is_clerk_name, tenderer_with_key, tenderer_named, who}
 
 -- The value that was read has the property, if it isn't a refusal.
 unfoldable pub IsRead : {A : Type 0} → (A → Type 0) → Result A Refusal → Type 0

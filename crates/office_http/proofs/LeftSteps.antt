@@ -1,10 +1,5 @@
 -- The states that a stop may leave after one answer.
-use Rattle.std.proofs.Common.{◌≡◌, ℕ, ◌⊎◌, inl, inr, Bool, true, false, sym, subst}
-use Rattle.office_values.specs.declared.settings.Settings.{Settings}
-use Rattle.office_base.specs.Tables.{Tables}
-use Rattle.office_base.specs.Shelves.{Meaning}
-use Rattle.office_http.specs.Meaning.{Meant}
-use Rattle.office_http.specs.Answering.{IsWholeAfter, LeftAfter, StopsAfter, is_accepted}
+use Rattle.office_http.proofs.Names.{◌≡◌, ℕ, ◌⊎◌, inl, inr, Bool, true, false, sym, subst, Settings, Tables, Meaning, Meant, IsWholeAfter, LeftAfter, StopsAfter, is_accepted}
 
 -- A stop may still leave the earlier states after an answer that changes nothing.
 left_before : (accepted : Bool) (Before IsAfter : Type 0) → Before → LeftAfter accepted true Before IsAfter

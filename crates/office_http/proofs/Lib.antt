@@ -1,3 +1,4 @@
+pub mod Names
 pub mod Joining
 pub mod ShortTexts
 pub mod ShortRefusals

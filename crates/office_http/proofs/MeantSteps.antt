@@ -1,20 +1,6 @@
 -- The meaning of a request can be given to the specification.
-use Rattle.std.proofs.Common.{Option, Result, Ok, Err}
-use Rattle.std.specs.Prelude.{IfOk}
-use Rattle.office_commands.specs.declared.command.Caller.{Caller}
-use Rattle.office_values.specs.declared.refusal.Refusal.{Refusal}
-use Rattle.office_values.specs.declared.settings.Settings.{Settings}
-use Rattle.office_base.specs.Tables.{Tables}
-use Rattle.office_wire.specs.Request.{RequestView}
-use Rattle.office_requests.specs.Asking.{CanBeAsked, WhatIsAskedCanBeGiven, asked_by_route}
-use Rattle.office_requests.specs.Routing.{routed}
-use Rattle.office_requests.specs.declared.asked.Asked.{Asked}
-use Rattle.office_requests.specs.declared.asked.Asked.TheVariants.{Does, Looks}
-use Rattle.office_requests.specs.declared.route.Allow.{Allow}
-use Rattle.office_requests.specs.declared.route.Route.{Route}
-use Rattle.office_http.specs.Credentials.{credentials_of}
-use Rattle.office_http.specs.Meaning.{meant, meant_asked, meant_at, meant_by, who}
-use Rattle.office_http.specs.Inside.Meant.{CanBeMeant}
+use Rattle.office_http.proofs.Names.{Option, Result, Ok, Err, IfOk, Caller, Refusal, Settings, Tables, RequestView, CanBeAsked, WhatIsAskedCanBeGiven, asked_by_route, routed, Asked, Does, Allow, Route, credentials_of, meant, meant_asked, meant_at, meant_by, who, CanBeMeant}
+use Rattle.office_requests.specs.declared.asked.Asked.TheVariants.{Looks}
 use Rattle.office_http.proofs.KnownCallers.{IsKnown, IsRead, who_known}
 
 pub asked_can : (s : Tables) (caller : Caller) (read : Result Asked Refusal) → IsRead (IsKnown s) (Ok caller) → IfOk read CanBeAsked → CanBeMeant s (meant_asked caller read)

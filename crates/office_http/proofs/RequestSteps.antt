@@ -1,23 +1,5 @@
 -- From a request to its answer: the route, the caller, and the command or query.
-use Rattle.std.proofs.Common.{◌≡◌, ℕ, ◌⊎◌, inl, inr, true, false, List, Option, None, Result, Ok, Err, sym, ap, ◌∙◌, subst}
-use Rattle.std.specs.Prelude.{IfOk}
-use Rattle.office_commands.specs.declared.command.Caller.{Caller}
-use Rattle.office_values.specs.declared.refusal.Refusal.{Refusal}
-use Rattle.office_values.specs.declared.refusal.Refusal.TheVariants.{Unavailable}
-use Rattle.office_values.specs.declared.settings.Publisher.{Publisher}
-use Rattle.office_values.specs.declared.settings.Settings.{Settings}
-use Rattle.office_base.specs.Tables.{Tables}
-use Rattle.office_base.specs.Shelves.{Meaning}
-use Rattle.office_wire.specs.Request.{RequestView}
-use Rattle.office_requests.specs.Asking.{CanBeAsked, asked_by_route}
-use Rattle.office_requests.specs.Routing.{routed}
-use Rattle.office_requests.specs.declared.asked.Asked.{Asked}
-use Rattle.office_requests.specs.declared.route.Allow.{Allow}
-use Rattle.office_requests.specs.declared.route.Route.{Route}
-use Rattle.office_http.specs.Credentials.{credentials_of}
-use Rattle.office_http.specs.Meaning.{Meant, Refuses, Gives, Sees, meant, meant_at, meant_by, meant_asked, who}
-use Rattle.office_http.specs.Answering.{GivesWhole, IsRefusedText, ShowsMeant, is_accepted, reply_to_meant, tables_after}
-use Rattle.office_http.specs.Inside.Meant.{Answered, CanBeMeant, HoldsStanding}
+use Rattle.office_http.proofs.Names.{◌≡◌, ℕ, ◌⊎◌, inl, inr, true, false, List, Option, None, Result, Ok, Err, sym, ap, ◌∙◌, subst, IfOk, Caller, Refusal, Unavailable, Publisher, Settings, Tables, Meaning, RequestView, CanBeAsked, asked_by_route, routed, Asked, Allow, Route, credentials_of, Meant, Refuses, Gives, Sees, meant, meant_at, meant_by, meant_asked, who, GivesWhole, IsRefusedText, ShowsMeant, is_accepted, reply_to_meant, tables_after, Answered, CanBeMeant, HoldsStanding}
 use Rattle.office_http.proofs.AnswerSteps.{TellsRefusal, is_refused, is_unavailable, tells_unavailable}
 use Rattle.office_http.proofs.KnownCallers.{IsKnown, IsRead, who_known}
 use Rattle.office_http.proofs.MeantSteps.{asked_can}

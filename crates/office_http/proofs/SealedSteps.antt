@@ -1,41 +1,6 @@
 -- The specification's law about sealed bytes, applied to the requests of runs over HTTP.
-use Rattle.std.proofs.Common.{◌≡◌, ℕ, ◌⊎◌, inl, inr, Bool, true, false, not, ◌&&◌, is_some, List, [], ◌∷◌, Option, Some, None, Result, Ok, Err, refl, sym, ◌∙◌, ap, subst}
-use Rattle.std.specs.Prelude.{if◌then◌else◌}
-use Rattle.office_commands.specs.declared.command.Caller.{Caller}
-use Rattle.office_commands.specs.declared.commands.Command.{Command}
-use Rattle.office_commands.specs.declared.queries.Query.{Query}
-use Rattle.office_values.specs.Fields.{is_id}
-use Rattle.office_values.specs.declared.refusal.Refusal.{Refusal}
-use Rattle.office_values.specs.declared.refusal.Refusal.TheVariants.{BadKey}
-use Rattle.office_values.specs.declared.settings.Settings.{Settings}
-use Rattle.office_base.specs.declared.records.CompiledRow.{CompiledRow}
-use Rattle.office_base.specs.Tables.{Tables, find_tenderer}
-use Rattle.office_machine.specs.Fates.{received_at, fate_of_tender}
-use Rattle.office_machine.specs.Machine.{Given, Means, refusal_of, with_merges}
-use Rattle.office_machine.specs.MergesApart.{FatesReadNoMerges, RefusalsReadNoMerges, RepliesReadNoMerges, bare, beside}
-use Rattle.office_machine.specs.Requests.{AreRequests, Asks, Demand, Looks, Request, all_accepted, accepted_with, accepted_by, office_after, office_by, reply_to}
-use Rattle.office_machine.specs.Seals.{AlikeUntil, DifferingAreGone, KnowAlike, SameButSeals, ToldAlike, bytes_of, is_gone, is_opening, never, opens_it}
-use Rattle.office_machine.specs.Worlds.{Modified, Presented, Same, SameBut, ChosenTender}
-use Rattle.office_publications.specs.MergesApart.{KeptStepsReadNoMerges, PublishedLooksReadNoMerges}
-use Rattle.office_publications.specs.Packages.{packages}
-use Rattle.office_publications.specs.Publishing.{publishing}
-use Rattle.office_publications.specs.Sealed.{PublishedRunsAreAlike, PublishedSealsAreKept}
-use Rattle.office_publications.specs.Standing.{office_kept}
-use Rattle.office_plans.specs.Asking.{given}
-use Rattle.office_desk.specs.Callers.{caller_of, clerk_with_key, is_clerk_name, tenderer_with_key}
-use Rattle.office_wire.specs.Request.{RequestView}
-use Rattle.office_wire.specs.Runs.{Step}
-use Rattle.office_requests.specs.Routing.{routed}
-use Rattle.office_requests.specs.declared.route.Allow.{Allow}
-use Rattle.office_requests.specs.declared.route.Route.{Route}
-use Rattle.office_http.specs.Answering.{Held, answer_bytes, meant_in, office_answers, tables_left, told_as, unavailable_text}
-use Rattle.office_http.specs.Credentials.{credentials_of}
-use Rattle.office_requests.specs.Asking.{WhatIsAskedCanBeGiven}
-use Rattle.office_http.specs.Inside.Meant.{CanBeMeant}
-use Rattle.office_http.specs.Joined.{accepted_steps, joined_with}
-use Rattle.office_http.specs.Meaning.{Meant, Refuses, Gives, Sees, meant, meant_at, meant_by, who}
-use Rattle.office_http.specs.Response.{response_of}
-use Rattle.office_http.specs.Sealed.{AlikeTo, AnsweredAlikeUntil, AnsweredRunsAreAlike, AnsweredSealsAreKept, AreAlike, MeaningsReadTenderers, MeansSame, SameSteps, meant_opens}
+use Rattle.office_http.proofs.Names.{◌≡◌, ℕ, ◌⊎◌, inl, inr, Bool, true, false, not, ◌&&◌, is_some, List, [], ◌∷◌, Option, Some, None, Result, Ok, Err, refl, sym, ◌∙◌, ap, subst, if◌then◌else◌, Caller, Command, Query, is_id, Refusal, BadKey, Settings, CompiledRow, Tables, find_tenderer, received_at, fate_of_tender, Given, Means, refusal_of, with_merges, FatesReadNoMerges, RefusalsReadNoMerges, RepliesReadNoMerges, bare, beside, AreRequests, Asks, Demand, Request, all_accepted, accepted_with, accepted_by, office_after, office_by, reply_to, AlikeUntil, DifferingAreGone, KnowAlike, SameButSeals, ToldAlike, bytes_of, is_gone, is_opening, never, opens_it, Modified, Presented, Same, SameBut, ChosenTender, KeptStepsReadNoMerges, PublishedLooksReadNoMerges, packages, publishing, PublishedRunsAreAlike, PublishedSealsAreKept, office_kept, given, caller_of, clerk_with_key, is_clerk_name, tenderer_with_key, RequestView, Step, routed, Allow, Route, Held, answer_bytes, meant_in, office_answers, tables_left, told_as, unavailable_text, credentials_of, WhatIsAskedCanBeGiven, CanBeMeant, accepted_steps, joined_with, Meant, Refuses, Gives, Sees, meant, meant_at, meant_by, who, response_of, AlikeTo, AnsweredAlikeUntil, AnsweredRunsAreAlike, AnsweredSealsAreKept, AreAlike, MeaningsReadTenderers, MeansSame, SameSteps, meant_opens}
+use Rattle.office_machine.specs.Requests.{Looks}
 use Rattle.office_http.specs.declared.reply.Reply.TheVariants.{Refused}
 use Rattle.office_http.proofs.MeantSteps.{meant_can}
 

@@ -1,19 +1,10 @@
 -- The greatest length of the response to a refusal.
-use Rattle.std.proofs.Common.{◌≡◌, ℕ, ◌+◌, ◌≤◌, List, ◌++◌, length, Option, None, Some, refl, sym, subst, arith, ◌∙◌, length-append}
-use Rattle.std.specs.Fmt.{digits}
-use Rattle.std.specs.Prelude.{codes, decimal, option_map}
-use Rattle.office_values.specs.Refusals.{Named, Record, field_name, name_of_refusal, number_of_refusal, status_of_refusal, subject_of_refusal, thing_name, told}
-use Rattle.office_values.specs.declared.refusal.What.{What}
-use Rattle.office_values.specs.declared.refusal.Field.{Field}
+use Rattle.office_http.proofs.Names.{◌≡◌, ℕ, ◌+◌, ◌≤◌, List, ◌++◌, length, Option, None, Some, refl, sym, subst, arith, ◌∙◌, length-append, digits, codes, decimal, option_map, Named, Record, field_name, name_of_refusal, number_of_refusal, status_of_refusal, subject_of_refusal, thing_name, What, Field, Thing, Refusal, BadHead, TooLong, Coding, NoRoute, WrongMethod, BadKey, Forbidden, BadBody, NoSuch, Exists, NotYourTender, DeadlinePassed, DeadlineEarlier, NotOpenForTenders, AlreadyPresented, SecurityMissing, SecurityTooSmall, SecurityNotAsked, NotSealed, TooEarlyToOpen, AlreadyOpened, NotOpened, AlreadyDecided, NotAllExamined, Expired, Standstill, InsufficientFunds, MoreThanOutstanding, ContractEnded, NothingToCancel, LimitReached, Unavailable, Allow, IsShortNumber, allow_field, challenge_field, head_start, json, phrase_of, refusal_body, response_of, what_member}
+use Rattle.office_values.specs.Refusals.{told}
 use Rattle.office_values.specs.declared.refusal.Field.TheVariants as fields
 use Rattle.office_values.specs.declared.refusal.BadPart.TheVariants as parts
-use Rattle.office_values.specs.declared.refusal.Thing.{Thing}
 use Rattle.office_values.specs.declared.refusal.Thing.TheVariants as things
-use Rattle.office_values.specs.declared.refusal.Refusal.{Refusal}
-use Rattle.office_values.specs.declared.refusal.Refusal.TheVariants.{BadHead, TooLong, Coding, NoRoute, WrongMethod, BadKey, Forbidden, BadBody, NoSuch, Exists, NotYourTender, DeadlinePassed, DeadlineEarlier, NotOpenForTenders, AlreadyPresented, SecurityMissing, SecurityTooSmall, SecurityNotAsked, NotSealed, TooEarlyToOpen, AlreadyOpened, NotOpened, AlreadyDecided, NotAllExamined, Expired, Standstill, InsufficientFunds, MoreThanOutstanding, ContractEnded, NothingToCancel, LimitReached, Unavailable}
-use Rattle.office_requests.specs.declared.route.Allow.{Allow}
 use Rattle.office_requests.specs.declared.route.Allow.TheVariants as allow
-use Rattle.office_http.specs.Response.{IsShortNumber, allow_field, challenge_field, head_start, json, phrase_of, refusal_body, response_of, what_member}
 use Rattle.office_http.specs.declared.reply.Reply.TheVariants.{Refused}
 
 -- ---- the parts of a row

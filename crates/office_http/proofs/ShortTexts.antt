@@ -1,6 +1,5 @@
 -- Short texts that are joined one after another.
-use Rattle.std.proofs.Common.{◌≡◌, ℕ, ◌+◌, ◌≤◌, List, [], ◌++◌, length, ap, subst, arith, ◌∙◌, append_assoc, length-append}
-use Rattle.office_wire.specs.Short.{FitsBehind}
+use Rattle.office_http.proofs.Names.{◌≡◌, ℕ, ◌+◌, ◌≤◌, List, [], ◌++◌, length, ap, subst, arith, ◌∙◌, append_assoc, length-append, FitsBehind}
 
 -- The fact that a text was added.
 pub record Fits (old text new : List ℕ) : Type 0 where

@@ -1,23 +1,5 @@
 -- Refusals at sight.
-use Rattle.std.proofs.Common.{◌≡◌, ℕ, Bool, true, false, not, ◌||◌, List, Option, Some, None, Result, Ok, Err, if◌then◌else◌, refl, sym, ap, ◌∙◌, subst}
-use Rattle.office_commands.specs.declared.command.Caller.{Caller}
-use Rattle.office_values.specs.declared.refusal.Refusal.{Refusal}
-use Rattle.office_values.specs.Fields.{is_id}
-use Rattle.office_values.specs.declared.refusal.Refusal.TheVariants.{BadKey, Forbidden}
-use Rattle.office_values.specs.declared.settings.Settings.{Settings}
-use Rattle.office_base.specs.Tables.{Tables, no_tables, tenderer_at}
-use Rattle.office_desk.specs.Callers.{caller_of, clerk_with_key, is_clerk_name, names_no_tenderer, tenderer_with_key}
-use Rattle.office_wire.specs.Request.{RequestView}
-use Rattle.office_requests.specs.Asking.{asked_by, may_ask}
-use Rattle.office_requests.specs.Parameters.{query_of}
-use Rattle.office_requests.specs.Routing.{routed}
-use Rattle.office_requests.specs.declared.asked.Asked.{Asked}
-use Rattle.office_requests.specs.declared.route.Allow.{Allow}
-use Rattle.office_requests.specs.declared.route.Route.{Route}
-use Rattle.office_http.specs.AtSight.{is_known_at_sight, refused_at_sight, refused_by_route, refused_to}
-use Rattle.office_http.specs.Credentials.{credentials_of}
-use Rattle.office_http.specs.Meaning.{Refuses, meant, meant_asked, meant_at, meant_by, who}
-use Rattle.office_http.specs.Response.{response_of}
+use Rattle.office_http.proofs.Names.{◌≡◌, ℕ, Bool, true, false, not, ◌||◌, List, Option, Some, None, Result, Ok, Err, if◌then◌else◌, refl, sym, ap, ◌∙◌, subst, Caller, Refusal, is_id, BadKey, Forbidden, Settings, Tables, no_tables, tenderer_at, caller_of, clerk_with_key, is_clerk_name, names_no_tenderer, tenderer_with_key, RequestView, asked_by, may_ask, query_of, routed, Asked, Allow, Route, is_known_at_sight, refused_at_sight, refused_by_route, refused_to, credentials_of, Refuses, meant, meant_asked, meant_at, meant_by, who, response_of}
 use Rattle.office_http.specs.declared.reply.Reply.TheVariants.{Refused}
 
 -- ---- the cases of a test

@@ -1,50 +1,9 @@
 -- The specification's replies as they are sent.
-use Rattle.std.proofs.Common.{◌≡◌, ℕ, Bool, true, false, List, ◌∷◌, Option, Some, None, Ok, Err, refl}
-use Rattle.std.specs.Prelude.{cond, not, map, filter, ◌||◌}
-use Rattle.office_commands.specs.Queries.{query_kind_of}
-use Rattle.office_commands.specs.Callers.{is_by}
-use Rattle.office_commands.specs.Rights.{is_clerk, may_look}
-use Rattle.office_commands.specs.declared.command.Caller.{Caller}
-use Rattle.office_commands.specs.declared.commands.Command.{Command}
-use Rattle.office_commands.specs.declared.commands.Command.TheVariants.{Modify}
-use Rattle.office_commands.specs.declared.queries.Query.{Query}
+use Rattle.office_http.proofs.Names.{◌≡◌, ℕ, Bool, true, false, List, ◌∷◌, Option, Some, None, Ok, Err, refl, cond, not, map, filter, ◌||◌, query_kind_of, is_by, is_clerk, may_look, Caller, Command, Modify, Query, Refusal, Forbidden, NotOpened, NotYourTender, LineRow, LotRow, NoticeRow, SecurityRow, AwardRow, ContractRow, EntryRow, LateRow, PerformanceRow, TendererRow, EnvelopeRow, ClockRow, outstanding, paid_under, notice_of_envelope, first_of, is_opened, Tables, envelope_at, envelopes_of_notice, line_at, lots_of_notice, notice_at, security_at, contract_at, performance_at, awards_of_notice, entries_of_contract, late_at, securities_of_notice, modify_tests, evaluated_lot, evaluation_told, Given, done, may_give, refusal_of, reply_for, tests_for, time_of, Reply, Tender, Security, PerformanceSeen, Minutes, modify_reply, EvaluationSeen, ContractSeen, office_readings, Readings, Packages, is_read_envelope, line_told, minuted, minutes_told, package_told, register_told, security_told, performance_told, shown, tender_told, contract_told, own_tenders_told, securities_told, terms_told, accepted_reply, reply_text, text_of, told_as, seen_as, Json, Text}
 use Rattle.office_commands.specs.declared.queries.Query.TheVariants as queries
-use Rattle.office_values.specs.declared.refusal.Refusal.{Refusal}
-use Rattle.office_values.specs.declared.refusal.Refusal.TheVariants.{Forbidden, NotOpened, NotYourTender}
-use Rattle.office_base.specs.declared.records.LineRow.{LineRow}
-use Rattle.office_base.specs.declared.records.LotRow.{LotRow}
-use Rattle.office_base.specs.declared.records.NoticeRow.{NoticeRow}
-use Rattle.office_base.specs.declared.records.SecurityRow.{SecurityRow}
-use Rattle.office_base.specs.declared.records.AwardRow.{AwardRow}
-use Rattle.office_base.specs.declared.records.ContractRow.{ContractRow}
-use Rattle.office_base.specs.declared.records.EntryRow.{EntryRow}
-use Rattle.office_base.specs.declared.records.LateRow.{LateRow}
-use Rattle.office_base.specs.declared.records.PerformanceRow.{PerformanceRow}
-use Rattle.office_base.specs.declared.records.TendererRow.{TendererRow}
-use Rattle.office_base.specs.declared.records.EnvelopeRow.{EnvelopeRow}
-use Rattle.office_base.specs.declared.records.ClockRow.{ClockRow}
-use Rattle.office_base.specs.Joined.{outstanding, paid_under}
-use Rattle.office_base.specs.Parents.{notice_of_envelope}
-use Rattle.office_base.specs.Rules.{first_of}
-use Rattle.office_base.specs.States.{is_opened}
-use Rattle.office_base.specs.Tables.{Tables, envelope_at, envelopes_of_notice, line_at, lots_of_notice, notice_at, security_at, contract_at, performance_at}
-use Rattle.office_base.specs.Tables.{awards_of_notice, entries_of_contract, late_at, securities_of_notice}
-use Rattle.tender_core.specs.Rules.Modify.{modify_tests}
-use Rattle.office_machine.specs.Evaluation.{evaluated_lot, evaluation_told}
-use Rattle.office_machine.specs.Machine.{Given, done, may_give, refusal_of, reply_for, tests_for, time_of}
-use Rattle.office_machine.specs.Replies.{Reply, Refused}
-use Rattle.office_machine.specs.Replies.{Tender}
-use Rattle.office_machine.specs.Replies.{Security, PerformanceSeen, Minutes, modify_reply}
-use Rattle.office_machine.specs.Replies.{EvaluationSeen, ContractSeen}
-use Rattle.office_machine.specs.OfficeMeans.{office_readings}
-use Rattle.office_machine.specs.Readings.{Readings}
-use Rattle.office_machine.specs.Sights.{Packages, is_read_envelope, line_told, minuted, minutes_told, package_told, register_told, security_told, performance_told, shown, tender_told, told}
-use Rattle.office_machine.specs.Sights.{contract_told, own_tenders_told, securities_told, terms_told}
-use Rattle.office_plans.specs.Published.{accepted_reply}
-use Rattle.office_plans.specs.Replies.{reply_text, text_of}
-use Rattle.office_http.specs.Answering.{told_as, seen_as}
+use Rattle.office_machine.specs.Replies.{Refused}
+use Rattle.office_machine.specs.Sights.{told}
 use Rattle.office_http.specs.declared.reply.Reply as replies
-use Rattle.office_http.specs.declared.reply.Reply.TheVariants.{Json, Text}
 use Rattle.office_http.specs.declared.reply.Reply.TheVariants as variants
 
 -- A refusal is sent as a refusal.

@@ -1,13 +1,5 @@
 -- A run or a request that one office answers is also answered by another office that is a view of it.
-use Rattle.std.proofs.Common.{◌≡◌, ℕ, ◌⊎◌, inl, inr, Bool, List, [], ◌∷◌, ◌++◌, Option, Result, Ok, Err, refl, sym, ap, ◌∙◌, subst}
-use Rattle.std.proofs.lemmas.Option.{IfSome_then}
-use Rattle.std.specs.Prelude.{⊤}
-use Rattle.office_wire.specs.Blocks.{Block}
-use Rattle.office_wire.specs.Counting.{ReaderView}
-use Rattle.office_wire.specs.Runs.{Answers, AreSteps, CutsAnyRefusal, CutsRefusal, CutsReply, Ends, HasTold, IsResponse, Ran, Served, Serves, Step, office_left, written}
-use Rattle.office_wire.specs.Sending.{IsPrefix}
-use Rattle.office_wire.specs.declared.fault.ReadFault.{ReadFault}
-use Rattle.office_wire.specs.declared.fault.RunFault.{RunFault}
+use Rattle.office_http.proofs.Names.{◌≡◌, ℕ, ◌⊎◌, inl, inr, Bool, List, [], ◌∷◌, ◌++◌, Option, Result, Ok, Err, refl, sym, ap, ◌∙◌, subst, IfSome_then, ⊤, Block, ReaderView, Answers, AreSteps, CutsAnyRefusal, CutsRefusal, CutsReply, Ends, HasTold, IsResponse, Ran, Served, Serves, Step, office_left, written, IsPrefix, ReadFault, RunFault}
 use Rattle.office_wire.specs.declared.fault.RunFault.TheVariants as ends
 
 module _ {X Y : Type 0} (A : Answers X) (B : Answers Y) (f : X → Y)

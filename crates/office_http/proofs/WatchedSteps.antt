@@ -1,23 +1,6 @@
 -- The states that a stop may leave, step by step.
-use Rattle.std.proofs.Common.{◌≡◌, ℕ, Bool, true, false, List, [], ◌∷◌, ◌++◌, Option, Some, None, Result, append_assoc, append-nil, refl, sym, ap, ◌∙◌, subst}
-use Rattle.std.specs.Prelude.{⊤, is_none}
-use Rattle.office_values.specs.declared.refusal.Refusal.{Refusal}
-use Rattle.office_values.specs.declared.settings.Settings.{Settings}
-use Rattle.office_base.specs.Tables.{Tables}
-use Rattle.office_base.specs.Shelves.{Meaning}
-use Rattle.office_desk.specs.Desks.{DeskOf}
-use Rattle.office_publications.specs.Standing.{IsReached}
-use Rattle.office_requests.specs.declared.route.Allow.{Allow}
-use Rattle.office_wire.specs.Counting.{ReaderView}
-use Rattle.office_wire.specs.Blocks.{Block}
-use Rattle.office_wire.specs.Runs.{Ran, Served, Step, office_left}
-use Rattle.office_wire.specs.declared.fault.RunFault.{RunFault}
-use Rattle.office_http.specs.AtSight.{TellsAtSight, refused_at_sight}
-use Rattle.office_http.specs.Meaning.{Meant, Refuses, meant}
-use Rattle.office_http.specs.Answering.{Held, IsAnswered, IsWholeAfter, LeftAfter, StandsAs, StopsAfter, answer_bytes, is_accepted, meant_in, office_answers, tables_left}
-use Rattle.office_http.specs.Response.{response_of}
+use Rattle.office_http.proofs.Names.{◌≡◌, ℕ, Bool, true, false, List, [], ◌∷◌, ◌++◌, Option, Some, None, Result, append_assoc, append-nil, refl, sym, ap, ◌∙◌, subst, ⊤, is_none, Refusal, Settings, Tables, Meaning, DeskOf, IsReached, Allow, ReaderView, Block, Ran, Served, Step, office_left, RunFault, TellsAtSight, refused_at_sight, Meant, Refuses, meant, Held, IsAnswered, IsWholeAfter, LeftAfter, StandsAs, StopsAfter, answer_bytes, is_accepted, meant_in, office_answers, tables_left, response_of, LeftBySteps, StandsWatched, StopsBy, Watched, office_now, watched_answers}
 use Rattle.office_http.specs.declared.reply.Reply.TheVariants.{Refused}
-use Rattle.office_http.specs.Stops.{LeftBySteps, StandsWatched, StopsBy, Watched, office_now, watched_answers}
 use Rattle.office_http.proofs.LeftSteps.{left_weaker}
 use Rattle.office_http.proofs.SightSteps.{sight_meant}
 use Rattle.office_http.proofs.ViewedAnswers.{ran_as, served_as}

@@ -1,11 +1,6 @@
 -- Examples of responses, computed by the prover.
-use Rattle.std.specs.Prelude.{◌≡◌, codes, Some, None}
-use Rattle.std.specs.Fmt.{digits}
-use Rattle.std.proofs.Common.{refl}
-use Rattle.office_values.specs.declared.refusal.Refusal.TheVariants.{NoRoute, WrongMethod}
-use Rattle.office_http.specs.Response.{response_of}
-use Rattle.office_requests.specs.declared.route.Allow.TheVariants.{Post}
-use Rattle.office_http.specs.declared.reply.Reply.TheVariants.{Json, Refused}
+use Rattle.office_http.proofs.Names.{◌≡◌, codes, Some, None, digits, refl, NoRoute, WrongMethod, response_of, Post, Json}
+use Rattle.office_http.specs.declared.reply.Reply.TheVariants.{Refused}
 
 no_route : response_of (Refused NoRoute None)
     ≡ codes "HTTP/1.1 404 Not Found\r\nContent-Type: application/json\r\nContent-Length: 30\r\nConnection: close\r\n\r\n{\"name\":\"NoRoute\",\"refusal\":4}"

@@ -1,36 +1,7 @@
 -- The rows of a join are in rising order of their keys.
-use Rattle.std.specs.Prelude.{◌≡◌, ℕ, pos, List, [], ◌∷◌, map, flat_map, Option, Some, true}
-use Rattle.std.proofs.Common.{refl, sym, ap, ap₂, ◌∙◌}
-use Rattle.std.specs.List.{AllByRecursion}
-use Rattle.std.specs.Ordering.{nat_cmp, ordering_then}
-use Rattle.std.specs.FinMap.{nat_cmp-IsAntisymmetric}
-use Rattle.std.specs.declared.cmp.Ordering.{Ordering}
-use Rattle.std.specs.declared.cmp.Ordering.TheVariants.{Less, Equal, Greater}
-use Rattle.std.specs.Cmp.{IsTotalOrder, tied_itself, nat_cmp_total}
-use Rattle.std.specs.Cmp.Lexicographic.{nat_list_cmp_total}
-use Rattle.std.proofs.lemmas.List.Elements.{filter_passes, recursion_from_All}
-use Rattle.sqlite_trees.specs.Tree.{IsAscending}
-use Rattle.sqlite_keyed.proofs.ListLemmas.{all-append, ascending-append, ascending-map, ascending-filter, ascending_weaker}
-use Rattle.sqlite_value.specs.declared.value.Value.TheVariants.{Int, Text}
-use Rattle.sqlite_value.specs.Order.{value_cmp}
-use Rattle.sqlite_value.proofs.OrderLemmas.{value_cmp-Text}
-use Rattle.office_values.specs.Ids.{id_cmp}
-use Rattle.office_base.specs.Rows.{IsInOrder}
-use Rattle.office_base.proofs.RowLaws.Starts.{all_above}
-use Rattle.office_base.proofs.Orders.{equal_from_test, lots_total, entries_total}
-use Rattle.office_base.specs.Tables.{Tables, IsSorted, line_key, contract_key, entry_key, entry_cmp, lot_cmp, lots_of_line, contracts_of_lot, entries_of_contract}
+use Rattle.office_ledger.proofs.Names.{◌≡◌, ℕ, pos, List, [], ◌∷◌, map, flat_map, Option, Some, true, refl, sym, ap, ap₂, ◌∙◌, AllByRecursion, nat_cmp, ordering_then, nat_cmp-IsAntisymmetric, Ordering, Less, Equal, Greater, IsTotalOrder, tied_itself, nat_cmp_total, nat_list_cmp_total, filter_passes, recursion_from_All, IsAscending, all-append, ascending-append, ascending-map, ascending-filter, ascending_weaker, Int, value_cmp, value_cmp-Text, id_cmp, IsInOrder, all_above, equal_from_test, lots_total, entries_total, Tables, IsSorted, line_key, contract_key, entry_key, entry_cmp, lot_cmp, lots_of_line, contracts_of_lot, entries_of_contract, LineRow, LotRow, ContractRow, EntryRow, numbers_cmp, or_none, entry_part, with_entry, with_contract, with_lot, joined_contract, joined_lots, joined, JoinedRow, JoinedLot, JoinedContract, JoinedEntry, perhaps, contract_in, entry_in}
+use Rattle.sqlite_value.specs.declared.value.Value.TheVariants.{Text}
 use Rattle.office_base.specs.Tables as tables
-use Rattle.office_base.specs.declared.records.LineRow.{LineRow}
-use Rattle.office_base.specs.declared.records.LotRow.{LotRow}
-use Rattle.office_base.specs.declared.records.ContractRow.{ContractRow}
-use Rattle.office_base.specs.declared.records.EntryRow.{EntryRow}
-use Rattle.office_tables.proofs.Cells.{numbers_cmp}
-use Rattle.office_ledger.specs.Joins.{or_none, entry_part, with_entry, with_contract, with_lot, joined_contract, joined_lots, joined}
-use Rattle.office_ledger.specs.declared.joined.JoinedRow.{JoinedRow}
-use Rattle.office_ledger.specs.declared.joined.JoinedLot.{JoinedLot}
-use Rattle.office_ledger.specs.declared.joined.JoinedContract.{JoinedContract}
-use Rattle.office_ledger.specs.declared.joined.JoinedEntry.{JoinedEntry}
-use Rattle.office_ledger.specs.Cells.{perhaps, contract_in, entry_in}
 
 -- ---- a table in the order of its keys
 

@@ -1,17 +1,5 @@
 -- Joined rows are read back from their columns.
-use Rattle.std.specs.Prelude.{◌≡◌, [], ◌∷◌, Option, Some, None}
-use Rattle.std.proofs.Common.{refl, ap}
-use Rattle.office_base.specs.declared.records.EntryKind.{EntryKind}
-use Rattle.office_base.specs.declared.records.EntryKind.TheVariants.{Raise, Cut, Payment}
-use Rattle.office_ledger.specs.declared.joined.JoinedRow.{JoinedRow}
-use Rattle.office_ledger.specs.declared.joined.JoinedLot.{JoinedLot}
-use Rattle.office_ledger.specs.declared.joined.JoinedContract.{JoinedContract}
-use Rattle.office_ledger.specs.declared.joined.JoinedEntry.{JoinedEntry}
-use Rattle.office_tables.specs.Words.{entry_kind_text, entry_kind_in}
-use Rattle.office_ledger.specs.Cells.{joined_cells}
-use Rattle.office_ledger.specs.Reading.{joined_read, joined_lot_read}
-use Rattle.office_ledger.specs.Shows.{joined_lot_cells}
-use Rattle.office_ledger.specs.ReadBack.{JoinedRowsComeBack, JoinedLotsComeBack}
+use Rattle.office_ledger.proofs.Names.{◌≡◌, [], ◌∷◌, Option, Some, None, refl, ap, EntryKind, Raise, Cut, Payment, JoinedRow, JoinedLot, JoinedContract, JoinedEntry, entry_kind_text, entry_kind_in, joined_cells, joined_read, joined_lot_read, joined_lot_cells, JoinedRowsComeBack, JoinedLotsComeBack}
 
 kind_back : (k : EntryKind) → entry_kind_in (entry_kind_text k) ≡ k
 kind_back Raise = refl

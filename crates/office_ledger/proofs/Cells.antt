@@ -1,9 +1,6 @@
 -- Columns of joined rows: nothing is equal to NULL.
-use Rattle.std.proofs.Common.{◌≡◌, ℕ, pos, false, List, refl}
-use Rattle.sqlite_value.specs.declared.value.Value.TheVariants.{Null, Int, Text}
-use Rattle.sqlite_value.specs.declared.keys.Collation.TheVariants.{Binary}
-use Rattle.sqlite_sql.specs.Ops.{binary}
-use Rattle.sqlite_schema.specs.Rules.{equal}
+use Rattle.office_ledger.proofs.Names.{◌≡◌, ℕ, pos, false, List, refl, Null, Int, Binary, binary, equal}
+use Rattle.sqlite_value.specs.declared.value.Value.TheVariants.{Text}
 
 pub text_null : (a : List ℕ) → equal Binary (Text a) Null ≡ false
 unfolding binary

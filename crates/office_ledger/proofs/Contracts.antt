@@ -1,21 +1,6 @@
 -- The rows of contracts, one contract after another.
-use Rattle.std.specs.Prelude.{◌≡◌, ℕ, Bool, true, false, cond, List, [], ◌∷◌, map, Option, Some, None}
-use Rattle.std.proofs.Common.{refl, ap, ◌∙◌}
-use Rattle.std.specs.Ordering.{nat_cmp, is_eq}
-use Rattle.std.specs.Cmp.{tied_itself, nat_cmp_total}
-use Rattle.office_base.specs.Rows.{StartsAbove, IsInOrder}
-use Rattle.office_base.specs.EntrySums.{bare_sums, sums_with_entry, sums_with_entries}
-use Rattle.office_base.specs.Tables.{Tables, contract_key, same_number, entries_of_contract}
-use Rattle.office_base.specs.Joined.{sums_of}
-use Rattle.office_base.specs.declared.ledger.ContractSums.{ContractSums}
-use Rattle.office_base.specs.declared.records.ContractRow.{ContractRow}
-use Rattle.office_base.specs.declared.records.EntryRow.{EntryRow}
-use Rattle.office_ledger.specs.Joins.{entry_part, with_entry, joined_contract}
-use Rattle.office_ledger.specs.Inside.Adding.{opened, with_sums, settle, settled, is_contract, take_entry, entry_added, enter_contract, take_contract, fold_rows}
-use Rattle.office_ledger.specs.declared.joined.JoinedEntry.{JoinedEntry}
-use Rattle.office_ledger.specs.declared.line_sums.OpenContract.{OpenContract}
-use Rattle.office_ledger.specs.declared.line_sums.LineSums.{LineSums}
-use Rattle.office_base.proofs.EntrySums.{sums_are}
+use Rattle.office_ledger.proofs.Names.{◌≡◌, ℕ, Bool, true, false, cond, List, [], ◌∷◌, map, Option, Some, None, refl, ap, ◌∙◌, nat_cmp, is_eq, tied_itself, nat_cmp_total, StartsAbove, IsInOrder, bare_sums, sums_with_entry, sums_with_entries, Tables, contract_key, same_number, entries_of_contract, sums_of, ContractSums, ContractRow, EntryRow, entry_part, with_entry, joined_contract, with_sums, settle, settled, is_contract, take_entry, entry_added, enter_contract, take_contract, fold_rows, JoinedEntry, OpenContract, LineSums, sums_are}
+use Rattle.office_ledger.specs.Inside.Adding.{opened}
 use Rattle.office_ledger.proofs.Taken.{grouped}
 
 pub same_itself : (n : ℕ) → same_number n n ≡ true

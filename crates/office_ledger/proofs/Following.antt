@@ -1,18 +1,5 @@
 -- A ledger that has taken rows takes one more.
-use Rattle.std.specs.Prelude.{◌≡◌, ◌+◌, ◌-◌, ◌<◌, ◌⊎◌, List, [], ◌∷◌, ◌++◌, length, Result, Ok, Err, OnOk, IfErr, Option, None}
-use Rattle.std.proofs.Common.{inl, inr, refl, sym, ap, subst, ◌∙◌, arith}
-use Rattle.office_base.specs.Faults.{IsFaultOf}
-use Rattle.office_base.specs.Joined.{LinesFit}
-use Rattle.office_base.specs.LineSums.{JoinedSums}
-use Rattle.office_base.specs.Shelves.{SumsAnswer}
-use Rattle.office_base.specs.Tables.{Tables, IsSorted}
-use Rattle.office_base.specs.declared.ledger.LedgerRow.{LedgerRow}
-use Rattle.office_base.specs.declared.shelf.ShelfFault.{ShelfFault}
-use Rattle.office_base.specs.declared.shelf.ShelfFault.TheVariants.{NoMemory, Store}
-use Rattle.office_ledger.specs.Joins.{joined}
-use Rattle.office_ledger.specs.Taking.{AreTooMuch, Summing, HasTaken}
-use Rattle.office_ledger.specs.Inside.Adding.{Added, nothing_added, closed, enter_line, take_row, added}
-use Rattle.office_ledger.specs.declared.joined.JoinedRow.{JoinedRow}
+use Rattle.office_ledger.proofs.Names.{◌≡◌, ◌+◌, ◌-◌, ◌<◌, ◌⊎◌, List, [], ◌∷◌, ◌++◌, length, Result, Ok, Err, OnOk, IfErr, Option, None, inl, inr, refl, sym, ap, subst, ◌∙◌, arith, IsFaultOf, LinesFit, JoinedSums, SumsAnswer, Tables, IsSorted, LedgerRow, ShelfFault, NoMemory, Store, joined, AreTooMuch, Summing, HasTaken, Added, nothing_added, closed, enter_line, take_row, added, JoinedRow}
 use Rattle.office_ledger.proofs.Lines.{IsLedger, adds_up, none_fits}
 use Rattle.office_ledger.proofs.Taken.{fold_rows-append}
 

@@ -1,24 +1,7 @@
 -- The columns of lots, contracts and entries in the selects, and the joins. The slot of the lots is a parameter; contracts and entries have the next two.
-use Rattle.std.proofs.Common.{◌≡◌, ◌-◌, nat_lt, ◌∷◌, [], List, Some, Ok, true, false, ℕ, suc, codes, refl}
-use Rattle.sqlite_sql.specs.Term.{Term, col, op2}
-use Rattle.sqlite_sql.specs.declared.ops.BinaryOp.TheVariants.{And}
-use Rattle.sqlite_schema.specs.declared.schema.Schema.{Schema}
-use Rattle.sqlite_schema.specs.declared.schema.Column.{Column}
-use Rattle.sqlite_schema.specs.Names.{same_name, is_key}
-use Rattle.sqlite_ast.specs.declared.Expr.{Expr}
-use Rattle.sqlite_resolve.specs.declared.state.Carried.{Carried}
-use Rattle.sqlite_resolve.specs.Scope.{Name, Context}
-use Rattle.sqlite_resolve.specs.Lowering.{nothing}
-use Rattle.sqlite_resolve.specs.Expr.{lower}
-use Rattle.sqlite_resolve.specs.Compare.{of_declared}
+use Rattle.office_ledger.proofs.Names.{◌≡◌, ◌-◌, nat_lt, ◌∷◌, [], List, Some, Ok, true, false, ℕ, suc, codes, refl, Term, col, op2, And, Schema, Column, same_name, is_key, Expr, Carried, Name, Context, nothing, lower, of_declared, text_column, number_column, both_e, out_both, and_is, Trees4, equals, HoldsFour, lot_columns, contract_columns, entry_columns, at_budget}
 use Rattle.sqlite_resolve.specs.declared.compare.Affinity.TheVariants as affinity
-use Rattle.office_tables.specs.Forms.{text_column, number_column}
-use Rattle.office_tables.proofs.Simple.{both_e, out_both}
-use Rattle.office_tables.proofs.LoweredTests.{and_is}
-use Rattle.office_ledger.specs.Select.{Trees4, equals}
-use Rattle.office_ledger.specs.Known.{HoldsFour, lot_columns, contract_columns, entry_columns}
 use Rattle.office_ledger.proofs.Qualified.{Pick, Finds, equals_e, equal_is}
-use Rattle.office_tables.proofs.Whole.{at_budget}
 use Rattle.office_ledger.proofs.JoinedSelect.{Joint, known_by}
 use Rattle.office_ledger.proofs.Scoped.{Has}
 

@@ -1,44 +1,15 @@
 -- The meaning of a SELECT of known tables that are joined one after another, in the order of columns, in any schema that has them.
-use Rattle.std.proofs.Common.{◌≡◌, ◌+◌, nat_lt, length, negsuc, ◌∷◌, [], ◌++◌, List, Option, Some, None, Ok, true, false, ℕ, slice_get, refl, sym, ap, ◌∙◌, map}
-use Rattle.std.specs.List.{list_all}
-use Rattle.std.proofs.lemmas.List.{append_assoc, append-nil}
-use Rattle.sqlite_value.specs.declared.keys.Key.{Key}
-use Rattle.sqlite_value.specs.declared.value.Value.TheVariants.{Int}
-use Rattle.sqlite_sql.specs.Term.{Term, lit, reads_below}
-use Rattle.sqlite_sql.specs.Query.{Query}
-use Rattle.sqlite_draft.specs.declared.join.Step.{Step}
-use Rattle.sqlite_draft.specs.declared.join.Step.TheVariants.{Inner, Left}
-use Rattle.sqlite_draft.specs.declared.query.Draft.{Draft}
-use Rattle.sqlite_draft.specs.Query.{query_of}
-use Rattle.sqlite_schema.specs.declared.schema.Schema.{Schema}
-use Rattle.sqlite_schema.specs.declared.schema.Table.{Table}
-use Rattle.sqlite_schema.specs.declared.schema.Column.{Column}
+use Rattle.office_ledger.proofs.Names.{◌≡◌, ◌+◌, nat_lt, length, negsuc, ◌∷◌, [], ◌++◌, List, Option, Some, None, Ok, true, false, ℕ, slice_get, refl, sym, ap, ◌∙◌, map, list_all, append_assoc, append-nil, Key, Int, Term, lit, reads_below, Query, Step, Inner, Left, Draft, query_of, Schema, Table, Column, table_named, Expr, Source, Core, out-Core, roll-Core, out-roll-Core, out-Select, roll-Select, out-roll-Select, Carried, Bound, Compiled, Name, Context, conjuncts, nothing, fresh, max_budget, lower, first, accepts_program, StatementMeans, parsed_in, means_by, Holds, at_budget, among, compiled_to, compiles, draft_of, pages_whole}
 use Rattle.sqlite_schema.specs.declared.command.Command.TheVariants as command
-use Rattle.sqlite_schema.specs.Names.{table_named}
-use Rattle.sqlite_ast.specs.declared.Expr.{Expr}
-use Rattle.sqlite_ast.specs.declared.Source.{Source}
-use Rattle.sqlite_ast.specs.declared.Core.{Core, out-Core, roll-Core, out-roll-Core}
-use Rattle.sqlite_ast.specs.declared.Select.{Select, out-Select, roll-Select, out-roll-Select}
+use Rattle.sqlite_ast.specs.declared.Select.{Select}
 use Rattle.sqlite_ast.specs.declared.Statement.TheVariants as written
-use Rattle.sqlite_resolve.specs.declared.state.Carried.{Carried}
-use Rattle.sqlite_resolve.specs.declared.scope.Bound.{Bound}
 use Rattle.sqlite_resolve.specs.declared.scope.Output.{Output}
-use Rattle.sqlite_resolve.specs.declared.compiled.Compiled.{Compiled}
-use Rattle.sqlite_resolve.specs.Scope.{Name, Context}
-use Rattle.sqlite_resolve.specs.Terms.{conjuncts}
-use Rattle.sqlite_resolve.specs.Lowering.{nothing, fresh, max_budget}
-use Rattle.sqlite_resolve.specs.Expr.{lower}
 use Rattle.sqlite_resolve.specs.Body as body
 use Rattle.sqlite_resolve.specs.Order as order
 use Rattle.sqlite_resolve.specs.Program as program
-use Rattle.sqlite_resolve.specs.Compile.{first}
-use Rattle.sqlite_typing.specs.Types.{accepts_program}
-use Rattle.office_tables.proofs.Meanings.{StatementMeans, parsed_in, means_by}
-use Rattle.office_ledger.specs.Known.{Holds}
 use Rattle.office_ledger.proofs.Qualified.{Pick, AllFound, AreLater, spent, left_by, shown_of, sort_of, outputs_are, sorts_are, outputs_of, keys_of}
 use Rattle.office_ledger.proofs.Scoped.{bound_of}
 use Rattle.office_ledger.proofs.Sources.{source_of, out_source, bound_is, source_is, left_joined, first_joined, joined_by}
-use Rattle.office_tables.proofs.Whole.{at_budget, among, compiled_to, compiles, draft_of, pages_whole}
 
 -- ---- the parts of the text
 

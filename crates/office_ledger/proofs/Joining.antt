@@ -1,30 +1,12 @@
 -- The select of the ledger means its query, in any schema that has the four tables.
-use Rattle.std.proofs.Common.{◌≡◌, ◌∷◌, [], List, Some, None, Ok, Bool, true, false, ℕ, suc, codes, refl, sym, subst}
-use Rattle.sqlite_sql.specs.Term.{col}
-use Rattle.sqlite_sql.specs.Query.{Query}
-use Rattle.sqlite_schema.specs.declared.schema.Schema.{Schema}
-use Rattle.sqlite_schema.specs.declared.schema.Column.{Column}
-use Rattle.sqlite_schema.specs.declared.schema.Kind.TheVariants.{Integer, Text}
+use Rattle.office_ledger.proofs.Names.{◌≡◌, ◌∷◌, [], List, Some, None, Ok, Bool, true, false, ℕ, suc, codes, refl, sym, subst, col, Query, Schema, Column, Integer, same_name, Expr, Source, Name, Context, nothing, max_budget, lower, first, returning, accepts_program, everything, column_of, StatementMeans, parsed_in, Trees4, equals, list_joined, joined_query, HoldsFour, at_budget, among}
+use Rattle.sqlite_schema.specs.declared.schema.Kind.TheVariants.{Text}
 use Rattle.sqlite_schema.specs.declared.command.Command.TheVariants as command
-use Rattle.sqlite_schema.specs.Names.{same_name}
-use Rattle.sqlite_ast.specs.declared.Expr.{Expr}
-use Rattle.sqlite_ast.specs.declared.Source.{Source}
 use Rattle.sqlite_resolve.specs.declared.scope.Output.{Output}
-use Rattle.sqlite_resolve.specs.Scope.{Name, Context}
-use Rattle.sqlite_resolve.specs.Lowering.{nothing, max_budget}
-use Rattle.sqlite_resolve.specs.Expr.{lower}
 use Rattle.sqlite_resolve.specs.Body as body
-use Rattle.sqlite_resolve.specs.Compile.{first, returning}
-use Rattle.sqlite_typing.specs.Types.{accepts_program}
-use Rattle.sqlite_tied.specs.Compute.{everything}
-use Rattle.office_tables.specs.Forms.{column_of}
-use Rattle.office_tables.proofs.Meanings.{StatementMeans, parsed_in}
-use Rattle.office_ledger.specs.Select.{Trees4, equals, list_joined, joined_query}
-use Rattle.office_ledger.specs.Known.{HoldsFour}
 use Rattle.office_ledger.proofs.Qualified.{Pick, Finds, AllFound, plainly, equals_e, equal_is, outputs_of}
 use Rattle.office_ledger.proofs.Scoped.{four_bounds, line_of_four, lot_of_four, contract_of_four, contract_key_of_four, entry_of_four}
 use Rattle.office_ledger.proofs.Sources.{source_of}
-use Rattle.office_tables.proofs.Whole.{at_budget, among}
 use Rattle.office_ledger.proofs.JoinedSelect.{IsWritten, KnownTable, Joint, known_by, IsRead, query, means}
 use Rattle.office_ledger.proofs.JoinedColumns.{lot_line, lot_picks, lot_sorts, on_lot, on_contract, lot_joints, FindsLots, finds_lots, lot_lowers, contract_lowers}
 

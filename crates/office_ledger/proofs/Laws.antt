@@ -1,20 +1,8 @@
 -- The rows that the selects show of a connection.
-use Rattle.std.proofs.Common.{◌≡◌, ◌^◌, ℕ, List, [], ◌∷◌, ◌++◌, map, false, refl, subst}
-use Rattle.std.specs.Prelude.{nat_le}
-use Rattle.sqlite_value.specs.declared.value.Value.TheVariants.{Null, Text}
-use Rattle.sqlite_value.specs.Order.{Row}
-use Rattle.sqlite_trees.specs.Tree.{Trees}
-use Rattle.sqlite_sql.specs.Program.{overlay}
+use Rattle.office_ledger.proofs.Names.{◌≡◌, ◌^◌, ℕ, List, [], ◌∷◌, ◌++◌, map, false, refl, subst, nat_le, Null, Row, Trees, overlay, Answers, ReadsFirst, Begins, reads_as, begins_as, Tables, joined, joined_lots, list_joined, joined_query, LineCells, LotCells, ContractCells, EntryCells, Show, joined_cells, list_joined_of_line, lots_query, HoldsJoined, joined_lot_cells}
+use Rattle.sqlite_value.specs.declared.value.Value.TheVariants.{Text}
 use Rattle.sqlite_schema.specs.declared.command.Command.TheVariants.{Select}
-use Rattle.sqlite.specs.Effect.{Answers, ReadsFirst}
-use Rattle.sqlite.specs.State.{State, Shown, Begins}
-use Rattle.sqlite.proofs.Callers.{reads_as, begins_as}
-use Rattle.office_base.specs.Tables.{Tables}
-use Rattle.office_ledger.specs.Joins.{joined, joined_lots}
-use Rattle.office_ledger.specs.Select.{list_joined, joined_query}
-use Rattle.office_ledger.specs.Cells.{LineCells, LotCells, ContractCells, EntryCells, Show, joined_cells}
-use Rattle.office_ledger.specs.SelectLots.{list_joined_of_line, lots_query}
-use Rattle.office_ledger.specs.Shows.{HoldsJoined, joined_lot_cells}
+use Rattle.sqlite.specs.State.{State, Shown}
 use Rattle.office_ledger.proofs.Joining.{joined_means, joined_names}
 use Rattle.office_ledger.proofs.LotsJoining.{lots_mean, lots_names}
 use Rattle.office_ledger.proofs.LotsShown.{shows_lots}

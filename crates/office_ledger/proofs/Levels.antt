@@ -1,14 +1,5 @@
 -- One level of a left join: the rows of a table that pass, or one row of NULLs.
-use Rattle.std.specs.Prelude.{◌≡◌, Bool, true, false, cond, List, [], ◌∷◌, flat_map, filter, Option, Some, None}
-use Rattle.std.proofs.Common.{refl, sym, ap, ◌∙◌, arith}
-use Rattle.std.proofs.lemmas.List.{append-nil}
-use Rattle.std.specs.List.Sorted.{IsPermutation}
-use Rattle.std.proofs.lemmas.List.Sorted.{IsPermutation-refl, IsPermutation-trans, IsPermutation-append, IsPermutation-map, length_permutation}
-use Rattle.sqlite_trees.proofs.ListLemmas.{flat_map-map, IsPermutation-same, IsPermutation-filter, IsPermutation-flat_map}
-use Rattle.sqlite_value.specs.Order.{Row}
-use Rattle.sqlite_sql.specs.Query.{or_nulls}
-use Rattle.office_ledger.specs.Joins.{or_none}
-use Rattle.office_ledger.specs.Cells.{Paired, Show}
+use Rattle.office_ledger.proofs.Names.{◌≡◌, Bool, true, false, cond, List, [], ◌∷◌, flat_map, filter, Option, Some, None, refl, sym, ap, ◌∙◌, arith, append-nil, IsPermutation, IsPermutation-refl, IsPermutation-trans, IsPermutation-append, IsPermutation-map, length_permutation, flat_map-map, IsPermutation-same, IsPermutation-filter, IsPermutation-flat_map, Row, or_nulls, or_none, Paired, Show}
 
 or_none_same : {X : Type 0} (xs ys : List X) → IsPermutation xs ys → IsPermutation (or_none xs) (or_none ys)
 or_none_same [] [] same = IsPermutation-refl _

@@ -1,3 +1,4 @@
+pub mod Names
 pub mod Taken
 pub mod Contracts
 pub mod Lots

@@ -1,33 +1,5 @@
 -- The rows of all lines, taken one line after another, give the ledger.
-use Rattle.std.specs.Prelude.{◌≡◌, ℕ, ◌-◌, ◌≤◌, Bool, true, false, cond, ◌&&◌, nat_eq, nat_le, List, [], ◌∷◌, ◌++◌, map, flat_map, Option, Some, None}
-use Rattle.std.proofs.Common.{refl, sym, ap, subst, ◌∙◌, arith}
-use Rattle.std.proofs.lemmas.Bool.{and_parts, and_from, leb-true, le-leb, eqb-true, eq-eqb}
-use Rattle.std.proofs.lemmas.List.{append_assoc, append-nil}
-use Rattle.std.specs.List.{AllByRecursion}
-use Rattle.std.specs.Ordering.{is_eq}
-use Rattle.std.specs.Cmp.{tied_itself}
-use Rattle.std.specs.Cmp.Lexicographic.{texts_ties, nat_list_cmp_total}
-use Rattle.office_values.specs.Ids.{id_cmp, same_id}
-use Rattle.office_values.specs.Money.{total_limit}
-use Rattle.office_base.specs.Rows.{StartsAbove, IsInOrder}
-use Rattle.office_base.specs.Sums.{sum_over}
-use Rattle.office_base.specs.Tables.{Tables, IsSorted, lot_cmp, lot_key, line_key, lots_of_line}
-use Rattle.office_base.specs.Joined.{ledger_row, ledger_of, pots_of, LineFits, LinesFit, reservations, sums_of_line}
-use Rattle.office_base.specs.LineSums.{outstanding_in, paid_in, JoinedSums}
-use Rattle.office_base.specs.declared.ledger.ContractSums.{ContractSums}
-use Rattle.office_base.specs.declared.ledger.LedgerRow.{LedgerRow}
-use Rattle.office_base.specs.declared.ledger.Pots.{Pots}
-use Rattle.office_base.specs.declared.records.LineRow.{LineRow}
-use Rattle.office_base.specs.declared.records.LotRow.{LotRow}
-use Rattle.office_ledger.specs.Joins.{with_lot, joined_lot, joined_line, joined}
-use Rattle.office_ledger.specs.Taking.{IsJoinOfNoOffice}
-use Rattle.office_ledger.specs.Inside.Adding.{Added, overdrawn_in, no_sums, nothing_added, settled, sums_fit, pots_by, row_by, and_row, close, closed, is_line, line_opened, enter_line, take_row, take_lot, fold_rows, added}
-use Rattle.office_ledger.specs.declared.joined.JoinedLot.{JoinedLot}
-use Rattle.office_ledger.specs.declared.joined.JoinedRow.{JoinedRow}
-use Rattle.office_ledger.specs.declared.ledger_sums.OpenLine.{OpenLine}
-use Rattle.office_ledger.specs.declared.line_sums.LineSums.{LineSums}
-use Rattle.office_base.proofs.Orders.{lots_total}
-use Rattle.office_base.proofs.RowLaws.Filters.{in_order-filter}
+use Rattle.office_ledger.proofs.Names.{◌≡◌, ℕ, ◌-◌, ◌≤◌, Bool, true, false, cond, ◌&&◌, nat_eq, nat_le, List, [], ◌∷◌, ◌++◌, map, flat_map, Option, Some, None, refl, sym, ap, subst, ◌∙◌, arith, and_parts, and_from, leb-true, le-leb, eqb-true, eq-eqb, append_assoc, append-nil, AllByRecursion, is_eq, tied_itself, texts_ties, nat_list_cmp_total, id_cmp, same_id, total_limit, StartsAbove, IsInOrder, sum_over, Tables, IsSorted, lot_cmp, lot_key, line_key, lots_of_line, ledger_row, ledger_of, pots_of, LineFits, LinesFit, reservations, sums_of_line, outstanding_in, paid_in, JoinedSums, ContractSums, LedgerRow, Pots, LineRow, LotRow, with_lot, joined_lot, joined_line, joined, IsJoinOfNoOffice, Added, overdrawn_in, no_sums, nothing_added, settled, sums_fit, pots_by, row_by, and_row, close, closed, is_line, line_opened, enter_line, take_row, take_lot, fold_rows, added, JoinedLot, JoinedRow, OpenLine, LineSums, lots_total, in_order-filter}
 use Rattle.office_ledger.proofs.Lots.{lots_sums, lots_taken, reserved_are, outstanding_are, overdrawn_are, paid_are}
 use Rattle.office_ledger.proofs.Taken.{fold_rows-append, fold_rows-flat_map, grouped}
 

@@ -1,28 +1,5 @@
 -- The joined rows of lots give the sums of their contracts, lot by lot.
-use Rattle.std.specs.Prelude.{◌≡◌, ℕ, ◌-◌, ◌<◌, Bool, true, false, cond, ◌&&◌, List, [], ◌∷◌, ◌++◌, map, flat_map, Option, Some, None, Result, Ok, Err, OnOk}
-use Rattle.std.proofs.Common.{refl, sym, ap, ap₂, subst, ◌∙◌, arith}
-use Rattle.std.proofs.lemmas.List.{append_assoc, append-nil}
-use Rattle.std.specs.Ordering.{nat_cmp, is_eq}
-use Rattle.std.specs.Cmp.{nat_cmp_total}
-use Rattle.office_base.specs.Rows.{StartsAbove, IsInOrder}
-use Rattle.office_base.specs.EntrySums.{bare_sums, sums_with_entry, sums_with_entries}
-use Rattle.office_base.specs.Tables.{Tables, IsSorted, lot_cmp, lot_key, contract_key, same_number, lots_of_line, contracts_of_lot, entries_of_contract}
-use Rattle.office_base.specs.Joined.{sums_of, sums_under, sums_of_line}
-use Rattle.office_base.specs.declared.ledger.ContractSums.{ContractSums}
-use Rattle.office_base.specs.declared.records.ContractRow.{ContractRow}
-use Rattle.office_base.specs.declared.records.EntryRow.{EntryRow}
-use Rattle.office_base.specs.declared.records.LotRow.{LotRow}
-use Rattle.office_base.specs.declared.shelf.ShelfFault.{ShelfFault}
-use Rattle.office_ledger.specs.Joins.{entry_part, with_entry, with_contract, joined_contract, joined_lot, joined_lots}
-use Rattle.office_ledger.specs.Listing.{Listing, HasListed}
-use Rattle.office_ledger.specs.Inside.Adding.{fold_rows}
-use Rattle.office_ledger.specs.Inside.Listing.{Listed, nothing_listed, all_listed, is_current, enter_listed, entry_of_current, list_entry, list_contract, list_lot, listed, nothing_reserved, list_reserved}
-use Rattle.office_ledger.specs.declared.contract_list.CurrentContract.{CurrentContract}
-use Rattle.office_ledger.specs.declared.joined.JoinedEntry.{JoinedEntry}
-use Rattle.office_ledger.specs.declared.joined.JoinedLot.{JoinedLot}
-use Rattle.office_base.proofs.EntrySums.{sums_are}
-use Rattle.office_base.proofs.Orders.{lots_total}
-use Rattle.office_base.proofs.RowLaws.Filters.{in_order-filter}
+use Rattle.office_ledger.proofs.Names.{◌≡◌, ℕ, ◌-◌, ◌<◌, Bool, true, false, cond, ◌&&◌, List, [], ◌∷◌, ◌++◌, map, flat_map, Option, Some, None, Result, Ok, Err, OnOk, refl, sym, ap, ap₂, subst, ◌∙◌, arith, append_assoc, append-nil, nat_cmp, is_eq, nat_cmp_total, StartsAbove, IsInOrder, bare_sums, sums_with_entry, sums_with_entries, Tables, IsSorted, lot_cmp, lot_key, contract_key, same_number, lots_of_line, contracts_of_lot, entries_of_contract, sums_of, sums_under, sums_of_line, ContractSums, ContractRow, EntryRow, LotRow, ShelfFault, entry_part, with_entry, with_contract, joined_contract, joined_lot, joined_lots, Listing, HasListed, fold_rows, Listed, nothing_listed, all_listed, is_current, enter_listed, entry_of_current, list_entry, list_contract, list_lot, listed, nothing_reserved, list_reserved, CurrentContract, JoinedEntry, JoinedLot, sums_are, lots_total, in_order-filter}
 use Rattle.office_ledger.proofs.Lots.{same_key, same_itself}
 use Rattle.office_ledger.proofs.Contracts.{same_itself as same_number_itself}
 use Rattle.office_ledger.proofs.Following.{length-snoc}

@@ -1,27 +1,5 @@
 -- The rows of lots, one lot after another, and their sums.
-use Rattle.std.specs.Prelude.{◌≡◌, ℕ, ◌+◌, Bool, true, false, cond, ◌&&◌, List, [], ◌∷◌, ◌++◌, map, flat_map, Option, Some, None}
-use Rattle.std.proofs.Common.{refl, sym, ap, ◌∙◌, arith}
-use Rattle.std.specs.Ordering.{nat_cmp, is_eq, eq_by_cmp, ordering_then}
-use Rattle.std.specs.declared.cmp.Ordering.{Ordering}
-use Rattle.std.specs.declared.cmp.Ordering.TheVariants.{Less, Equal, Greater}
-use Rattle.std.specs.Cmp.{nat_cmp_total, tied_itself}
-use Rattle.std.specs.Cmp.Lexicographic.{texts_ties, nat_list_cmp_total}
-use Rattle.office_values.specs.Ids.{id_cmp, same_id}
-use Rattle.office_base.specs.Rows.{StartsAbove, IsInOrder}
-use Rattle.office_base.specs.Sums.{sum_over}
-use Rattle.office_base.specs.Tables.{Tables, IsSorted, lot_cmp, lot_key, contract_key, contracts_of_lot}
-use Rattle.office_base.specs.Joined.{sums_of, sums_under}
-use Rattle.office_base.specs.LineSums.{outstanding_in, paid_in}
-use Rattle.office_base.specs.declared.ledger.ContractSums.{ContractSums}
-use Rattle.office_base.specs.declared.records.ContractRow.{ContractRow}
-use Rattle.office_base.specs.declared.records.LotRow.{LotRow}
-use Rattle.office_ledger.specs.Joins.{with_contract, joined_contract, joined_lot}
-use Rattle.office_ledger.specs.Inside.Adding.{overdrawn_in, with_sums, settle, settled, is_contract, is_lot, take_perhaps, take_entry, enter_contract, take_contract, lot_opened, enter_lot, take_lot, fold_rows}
-use Rattle.office_ledger.specs.declared.joined.JoinedEntry.{JoinedEntry}
-use Rattle.office_ledger.specs.declared.joined.JoinedContract.{JoinedContract}
-use Rattle.office_ledger.specs.declared.line_sums.OpenContract.{OpenContract}
-use Rattle.office_ledger.specs.declared.line_sums.LineSums.{LineSums}
-use Rattle.office_base.proofs.RowLaws.Filters.{in_order-filter}
+use Rattle.office_ledger.proofs.Names.{◌≡◌, ℕ, ◌+◌, Bool, true, false, cond, ◌&&◌, List, [], ◌∷◌, ◌++◌, map, flat_map, Option, Some, None, refl, sym, ap, ◌∙◌, arith, nat_cmp, is_eq, eq_by_cmp, ordering_then, Ordering, Less, Equal, Greater, nat_cmp_total, tied_itself, texts_ties, nat_list_cmp_total, id_cmp, same_id, StartsAbove, IsInOrder, sum_over, Tables, IsSorted, lot_cmp, lot_key, contract_key, contracts_of_lot, sums_of, sums_under, outstanding_in, paid_in, ContractSums, ContractRow, LotRow, with_contract, joined_contract, joined_lot, overdrawn_in, with_sums, settle, settled, is_contract, is_lot, take_perhaps, take_entry, enter_contract, take_contract, lot_opened, enter_lot, take_lot, fold_rows, JoinedEntry, JoinedContract, OpenContract, LineSums, in_order-filter}
 use Rattle.office_ledger.proofs.Contracts.{counted, ContractsAbove, contracts_taken}
 use Rattle.office_ledger.proofs.Taken.{fold_rows-flat_map, grouped}
 

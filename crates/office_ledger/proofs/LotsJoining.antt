@@ -1,26 +1,11 @@
 -- The select over the lots of a line means its query, in any schema that has the four tables.
-use Rattle.std.proofs.Common.{◌≡◌, ◌∷◌, [], List, Some, None, Ok, Bool, true, false, codes, refl, sym, subst}
-use Rattle.sqlite_sql.specs.Term.{col}
-use Rattle.sqlite_sql.specs.Query.{Query}
-use Rattle.sqlite_schema.specs.declared.schema.Schema.{Schema}
+use Rattle.office_ledger.proofs.Names.{◌≡◌, ◌∷◌, [], List, Some, None, Ok, Bool, true, false, codes, refl, sym, subst, col, Query, Schema, Expr, Source, Name, Context, nothing, max_budget, lower, accepts_program, everything, StatementMeans, parsed_in, Trees4, equals, list_joined_of_line, is_of_line, lots_query, HoldsFour, at_budget, among}
 use Rattle.sqlite_schema.specs.declared.command.Command.TheVariants as command
-use Rattle.sqlite_ast.specs.declared.Expr.{Expr}
-use Rattle.sqlite_ast.specs.declared.Source.{Source}
 use Rattle.sqlite_resolve.specs.declared.scope.Output.{Output}
-use Rattle.sqlite_resolve.specs.Scope.{Name, Context}
-use Rattle.sqlite_resolve.specs.Lowering.{nothing, max_budget}
-use Rattle.sqlite_resolve.specs.Expr.{lower}
 use Rattle.sqlite_resolve.specs.Body as body
-use Rattle.sqlite_typing.specs.Types.{accepts_program}
-use Rattle.sqlite_tied.specs.Compute.{everything}
-use Rattle.office_tables.proofs.Meanings.{StatementMeans, parsed_in}
-use Rattle.office_ledger.specs.Select.{Trees4, equals}
-use Rattle.office_ledger.specs.SelectLots.{list_joined_of_line, is_of_line, lots_query}
-use Rattle.office_ledger.specs.Known.{HoldsFour}
 use Rattle.office_ledger.proofs.Qualified.{AllFound, plainly, given_e, given_is, outputs_of}
 use Rattle.office_ledger.proofs.Scoped.{three_bounds, lot_of_three, contract_of_three, contract_key_of_three, entry_of_three}
 use Rattle.office_ledger.proofs.Sources.{source_of}
-use Rattle.office_tables.proofs.Whole.{at_budget, among}
 use Rattle.office_ledger.proofs.JoinedSelect.{IsWritten, KnownTable, Joint, known_by, IsRead, query, means}
 use Rattle.office_ledger.proofs.JoinedColumns.{lot_line, lot_picks, lot_sorts, on_lot, on_contract, lot_joints, FindsLots, finds_lots, lot_lowers, contract_lowers}
 

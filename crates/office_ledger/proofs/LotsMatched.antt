@@ -1,29 +1,9 @@
 -- The rows that the select over a line's lots matches are the choices of the join, in any order.
-use Rattle.std.proofs.Common.{◌≡◌, ℕ, Bool, true, false, cond, ◌&&◌, List, [], ◌∷◌, ◌++◌, map, flat_map, filter, Some, None, refl, sym, ap, ap₂, ◌∙◌}
-use Rattle.std.specs.List.{list_all}
-use Rattle.std.specs.List.Sorted.{IsPermutation}
-use Rattle.std.proofs.lemmas.List.Sorted.{IsPermutation-trans}
-use Rattle.sqlite_trees.proofs.ListLemmas.{IsPermutation-same, map-flat_map, flat_map_none, flat_map_same_on}
-use Rattle.sqlite_trees.specs.Tree.{Trees}
-use Rattle.sqlite_value.specs.declared.value.Value.{Value}
-use Rattle.sqlite_value.specs.declared.value.Value.TheVariants.{Null, Text}
-use Rattle.sqlite_value.specs.Order.{Row, column}
-use Rattle.sqlite_value.specs.declared.keys.Collation.TheVariants.{Binary}
-use Rattle.sqlite_schema.specs.Rules.{equal}
-use Rattle.sqlite_sql.specs.Term.{Term, Env, holds}
-use Rattle.sqlite_sql.specs.Query.{Join, Output, matches_as, output, or_nulls, left, end}
-use Rattle.office_values.specs.Ids.{same_id}
-use Rattle.office_base.specs.Tables.{Tables, same_number, of_line, lots_of_line}
-use Rattle.office_base.specs.declared.records.LotRow.{LotRow}
-use Rattle.office_base.specs.declared.records.ContractRow.{ContractRow}
-use Rattle.office_base.specs.declared.records.EntryRow.{EntryRow}
-use Rattle.office_tables.proofs.Cells.{text_tested, number_tested, and_true}
-use Rattle.office_ledger.specs.Joins.{joined_lot, joined_lots}
-use Rattle.office_ledger.specs.declared.joined.JoinedLot.{JoinedLot}
-use Rattle.office_ledger.specs.Select.{Trees4}
-use Rattle.office_ledger.specs.SelectLots.{is_of_line, of_its_lot, of_its_contract, lots_from, lots_query}
+use Rattle.office_ledger.proofs.Names.{◌≡◌, ℕ, Bool, true, false, cond, ◌&&◌, List, [], ◌∷◌, ◌++◌, map, flat_map, filter, Some, None, refl, sym, ap, ap₂, ◌∙◌, list_all, IsPermutation, IsPermutation-trans, IsPermutation-same, map-flat_map, flat_map_none, flat_map_same_on, Trees, Value, Null, Row, Binary, equal, Term, Env, holds, Join, matches_as, output, or_nulls, left, end, same_id, Tables, same_number, of_line, lots_of_line, LotRow, ContractRow, EntryRow, text_tested, number_tested, and_true, joined_lot, joined_lots, JoinedLot, Trees4, is_of_line, of_its_lot, of_its_contract, lots_from, lots_query, LotCells, ContractCells, EntryCells, Show, lot_cells}
+use Rattle.sqlite_value.specs.declared.value.Value.TheVariants.{Text}
+use Rattle.sqlite_value.specs.Order.{column}
+use Rattle.sqlite_sql.specs.Query.{Output}
 use Rattle.office_ledger.specs.Cells as cells
-use Rattle.office_ledger.specs.Cells.{LotCells, ContractCells, EntryCells, Show, lot_cells}
 use Rattle.office_ledger.proofs.Cells.{number_null}
 use Rattle.office_ledger.proofs.Levels.{first_level, level, no_level}
 use Rattle.office_ledger.proofs.Nested.{with_last, with_contracts, lot_choices, lot_is}

@@ -1,21 +1,7 @@
 -- The select over the lots of a line shows their join, in the order of its keys.
-use Rattle.std.proofs.Common.{◌≡◌, ℕ, List, [], ◌∷◌, map, Some, sym, ap, ◌∙◌, Less}
-use Rattle.std.proofs.lemmas.List.Sorted.{IsPermutation-sym, IsPermutation-trans}
-use Rattle.sqlite_trees.proofs.ListLemmas.{map-map, IsPermutation-same}
-use Rattle.sqlite_trees.specs.Tree.{Trees, IsAscending}
-use Rattle.sqlite_keyed.proofs.ListLemmas.{ascending-map}
-use Rattle.sqlite_keyed.proofs.SortLemmas.{sorted_unique}
-use Rattle.sqlite_sql.proofs.QueryLemmas.{output_cmp_total}
-use Rattle.sqlite_value.specs.declared.value.Value.{Value}
+use Rattle.office_ledger.proofs.Names.{◌≡◌, ℕ, List, [], ◌∷◌, map, Some, sym, ap, ◌∙◌, Less, IsPermutation-sym, IsPermutation-trans, map-map, IsPermutation-same, Trees, IsAscending, ascending-map, sorted_unique, output_cmp_total, Value, Row, IsAnswerAs, output, output_cmp, matches_as, Tables, IsSorted, joined_lots, JoinedLot, Trees4, is_of_line, lots_query, LotCells, ContractCells, EntryCells, Show, lot_cells}
 use Rattle.sqlite_value.specs.declared.value.Value.TheVariants.{Text}
-use Rattle.sqlite_value.specs.Order.{Row}
-use Rattle.sqlite_sql.specs.Query.{Output, IsAnswerAs, output, output_cmp, matches_as}
-use Rattle.office_base.specs.Tables.{Tables, IsSorted}
-use Rattle.office_ledger.specs.Joins.{joined_lots}
-use Rattle.office_ledger.specs.declared.joined.JoinedLot.{JoinedLot}
-use Rattle.office_ledger.specs.Select.{Trees4}
-use Rattle.office_ledger.specs.SelectLots.{is_of_line, lots_query}
-use Rattle.office_ledger.specs.Cells.{LotCells, ContractCells, EntryCells, Show, lot_cells}
+use Rattle.sqlite_sql.specs.Query.{Output}
 use Rattle.office_ledger.proofs.Ascending.{lots_rise}
 use Rattle.office_ledger.proofs.LotsMatched.{out, lots_matched}
 

@@ -1,28 +1,7 @@
 -- The rows that the select's FROM matches are the choices of the join, in any order.
-use Rattle.std.proofs.Common.{◌≡◌, ℕ, Bool, true, ◌&&◌, List, [], ◌∷◌, ◌++◌, map, flat_map, filter, Some, None, ap, ap₂, ◌∙◌}
-use Rattle.std.specs.List.{list_all}
-use Rattle.std.specs.List.Sorted.{IsPermutation}
-use Rattle.std.proofs.lemmas.List.Sorted.{IsPermutation-trans}
-use Rattle.sqlite_trees.proofs.ListLemmas.{IsPermutation-same, map-flat_map}
-use Rattle.sqlite_trees.specs.Tree.{Trees}
-use Rattle.sqlite_value.specs.declared.value.Value.{Value}
-use Rattle.sqlite_value.specs.declared.value.Value.TheVariants.{Null}
-use Rattle.sqlite_value.specs.Order.{Row, column}
-use Rattle.sqlite_value.specs.declared.keys.Collation.TheVariants.{Binary}
-use Rattle.sqlite_schema.specs.Rules.{equal}
-use Rattle.sqlite_sql.specs.Term.{Term, Env, holds}
-use Rattle.sqlite_sql.specs.Query.{Join, Output, matches_as, output, or_nulls, left, end}
-use Rattle.office_values.specs.Ids.{same_id}
-use Rattle.office_base.specs.Tables.{Tables, same_number, of_line}
-use Rattle.office_base.specs.declared.records.LineRow.{LineRow}
-use Rattle.office_base.specs.declared.records.LotRow.{LotRow}
-use Rattle.office_base.specs.declared.records.ContractRow.{ContractRow}
-use Rattle.office_base.specs.declared.records.EntryRow.{EntryRow}
-use Rattle.office_tables.proofs.Cells.{text_tested, number_tested, and_true}
-use Rattle.office_ledger.specs.Joins.{joined}
-use Rattle.office_ledger.specs.declared.joined.JoinedRow.{JoinedRow}
-use Rattle.office_ledger.specs.Select.{Trees4, of_the_line, of_the_lot, of_the_contract, joined_from, joined_query}
-use Rattle.office_ledger.specs.Cells.{LineCells, LotCells, ContractCells, EntryCells, Show, row_key, joined_cells}
+use Rattle.office_ledger.proofs.Names.{◌≡◌, ℕ, Bool, true, ◌&&◌, List, [], ◌∷◌, ◌++◌, map, flat_map, filter, Some, None, ap, ap₂, ◌∙◌, list_all, IsPermutation, IsPermutation-trans, IsPermutation-same, map-flat_map, Trees, Value, Null, Row, Binary, equal, Term, Env, holds, Join, matches_as, output, or_nulls, left, end, same_id, Tables, same_number, of_line, LineRow, LotRow, ContractRow, EntryRow, text_tested, number_tested, and_true, joined, JoinedRow, Trees4, of_the_line, of_the_lot, of_the_contract, joined_from, joined_query, LineCells, LotCells, ContractCells, EntryCells, Show, row_key, joined_cells}
+use Rattle.sqlite_value.specs.Order.{column}
+use Rattle.sqlite_sql.specs.Query.{Output}
 use Rattle.office_ledger.proofs.Cells.{text_null, number_null}
 use Rattle.office_ledger.proofs.Levels.{first_level, level, no_level}
 use Rattle.office_ledger.proofs.Nested.{with_last, with_contracts, lot_out, with_lots, with_lines, choices}

@@ -1,18 +1,5 @@
 -- The join of lists, level by level, equals the nested choices that SQL makes.
-use Rattle.std.specs.Prelude.{◌≡◌, List, [], ◌∷◌, ◌++◌, map, flat_map, Option, Some, None, option_map}
-use Rattle.std.proofs.Common.{refl, sym, ap, ◌∙◌}
-use Rattle.std.proofs.lemmas.List.{append-nil}
-use Rattle.sqlite_trees.proofs.ListLemmas.{map-map, map-flat_map, flat_map-map, flat_map_same_on}
-use Rattle.office_base.specs.Tables.{Tables, lot_key, lots_of_line, contracts_of_lot, entries_of_contract}
-use Rattle.office_base.specs.declared.records.LineRow.{LineRow}
-use Rattle.office_base.specs.declared.records.LotRow.{LotRow}
-use Rattle.office_base.specs.declared.records.ContractRow.{ContractRow}
-use Rattle.office_base.specs.declared.records.EntryRow.{EntryRow}
-use Rattle.office_ledger.specs.Joins.{or_none, entry_part, with_entry, with_contract, with_lot, joined_contract, joined_lot, joined_line, joined}
-use Rattle.office_ledger.specs.declared.joined.JoinedRow.{JoinedRow}
-use Rattle.office_ledger.specs.declared.joined.JoinedLot.{JoinedLot}
-use Rattle.office_ledger.specs.declared.joined.JoinedContract.{JoinedContract}
-use Rattle.office_ledger.specs.declared.joined.JoinedEntry.{JoinedEntry}
+use Rattle.office_ledger.proofs.Names.{◌≡◌, List, [], ◌∷◌, ◌++◌, map, flat_map, Option, Some, None, option_map, refl, sym, ap, ◌∙◌, append-nil, map-map, map-flat_map, flat_map-map, flat_map_same_on, Tables, lot_key, lots_of_line, contracts_of_lot, entries_of_contract, LineRow, LotRow, ContractRow, EntryRow, or_none, entry_part, with_entry, with_contract, with_lot, joined_contract, joined_lot, joined_line, joined, JoinedRow, JoinedLot, JoinedContract, JoinedEntry}
 
 -- a list that isn't empty
 abbrev pub IsFull : {X : Type 0} → List X → Type 0

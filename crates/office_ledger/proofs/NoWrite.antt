@@ -1,19 +1,6 @@
 -- A statement without RETURNING in its text has none in its compiled form, in any schema.
-use Rattle.std.proofs.Common.{◌≡◌, ◌+◌, Ok, Err, None, inl, inr, cond, ℕ, List, sym, ap, ◌∙◌}
-use Rattle.std.proofs.lemmas.Bool.{cases_Bool}
-use Rattle.sqlite_schema.specs.declared.schema.Schema.{Schema}
-use Rattle.sqlite_schema.specs.declared.command.Command.{Command}
-use Rattle.sqlite_syntax.specs.declared.statement.Parsed.{Parsed}
-use Rattle.sqlite_resolve.specs.declared.error.CompileError.{CompileError}
-use Rattle.sqlite_resolve.specs.declared.compiled.Compiled.{Compiled}
-use Rattle.sqlite_resolve.specs.Lowering.{Checked, and_then}
-use Rattle.sqlite_resolve.specs.Scope.{Name}
-use Rattle.sqlite_resolve.specs.Compile.{first, compiled, planned, meaning, timed, returning, small, with_command}
+use Rattle.office_ledger.proofs.Names.{◌≡◌, ◌+◌, Ok, Err, None, inl, inr, cond, ℕ, List, sym, ap, ◌∙◌, cases_Bool, Schema, Command, Parsed, CompileError, Compiled, Checked, and_then, Name, first, compiled, planned, meaning, timed, returning, small, with_command, understood, listing_schema, misses_table, if_select, is_select, parsed_in, JoinIsNoWrite, list_joined}
 use Rattle.sqlite_resolve.specs.Compile as compile
-use Rattle.sqlite.specs.Listing.{understood, listing_schema, misses_table, if_select, is_select}
-use Rattle.office_tables.proofs.Meanings.{parsed_in}
-use Rattle.office_ledger.specs.Plain.{JoinIsNoWrite}
-use Rattle.office_ledger.specs.Select.{list_joined}
 use Rattle.office_ledger.proofs.Joining.{joined_written, returns_none}
 
 no_answer : {x : CompileError} {c : Compiled} → ◌≡◌ {A = Checked Compiled} (Err x) (Ok c) → ⊥

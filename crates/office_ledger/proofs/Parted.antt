@@ -1,12 +1,5 @@
 -- The reason why an optional part of a row isn't read.
-use Rattle.std.proofs.Common.{◌≡◌, Bool, false, Option, None, Some, Result, sym, ◌∙◌, true≢false}
-use Rattle.std.specs.Prelude.{IfErr, IfSome, IsTrue, ◌↔◌}
-use Rattle.std.specs.Result.{IsErrAnd}
-use Rattle.sqlite_value.specs.Order.{Row}
-use Rattle.office_base.specs.declared.shelf.ShelfFault.{ShelfFault}
-use Rattle.office_base.specs.Faults.{IsFaultOf}
-use Rattle.office_tables.specs.Unwritten.{IsUnwritten}
-use Rattle.office_tables.proofs.Exactly.{exit}
+use Rattle.office_ledger.proofs.Names.{◌≡◌, Bool, false, Option, None, Some, Result, sym, ◌∙◌, true≢false, IfErr, IfSome, IsTrue, ◌↔◌, IsErrAnd, Row, ShelfFault, IsFaultOf, IsUnwritten, exit}
 
 neither : {Y : Type 0} (cells : Option Y → Row) (fits : Y → Type 0) (row : Row) → (cells None ≡ row → ⊥) → IsUnwritten (λ y. cells (Some y)) fits row → (o : Option Y) → IfSome o fits → cells o ≡ row → ⊥
 neither cells fits row none h None f e = none e

@@ -1,34 +1,17 @@
 -- Columns that are named with their tables, in a scope of several tables, in any schema that has them.
-use Rattle.std.proofs.Common.{◌≡◌, ◌∷◌, [], ◌++◌, ◌-◌, List, Ok, None, Some, refl, ap, ◌∙◌, false, true, ℕ, zero, suc, slice_get, nat_lt, map}
-use Rattle.sqlite_value.specs.declared.keys.Collation.TheVariants.{Binary}
-use Rattle.sqlite_value.specs.declared.keys.Key.{Key}
-use Rattle.sqlite_sql.specs.Term.{Term, col, op2}
+use Rattle.office_ledger.proofs.Names.{◌≡◌, ◌∷◌, [], ◌++◌, ◌-◌, List, Ok, None, Some, refl, ap, ◌∙◌, false, true, ℕ, zero, suc, slice_get, nat_lt, map, Binary, Key, Term, col, op2, Table, Column, place_of, Expr, out-Expr, roll-Expr, Expr-F, Shown-F, out-Shown, roll-Shown, Sort, out-Sort, roll-Sort, out-roll-Sort, Carried, Bound, Affinity, Name, Context, find, term_of, column_at, declared, Checked, Lowering, nothing, alone, chosen, first_found, spend, begin, finish, compared, affinity_of, of_column, of_declared, converted, node, passes, lower_to, lower, everything, out_parameter, at_budget}
 use Rattle.sqlite_sql.specs.declared.ops.BinaryOp.TheVariants as by
 use Rattle.sqlite_sql.specs.declared.ops.CompareOp.TheVariants as compare
-use Rattle.sqlite_schema.specs.declared.schema.Table.{Table}
-use Rattle.sqlite_schema.specs.declared.schema.Column.{Column}
-use Rattle.sqlite_schema.specs.Names.{place_of}
 use Rattle.sqlite_ast.specs.declared.Binary.TheVariants as binary
-use Rattle.sqlite_ast.specs.declared.Expr.{Expr, out-Expr, roll-Expr}
-use Rattle.sqlite_ast.specs.declared.Expr.TheOpen.{Expr-F, Shown-F}
-use Rattle.sqlite_ast.specs.declared.Shown.{Shown, out-Shown, roll-Shown}
-use Rattle.sqlite_ast.specs.declared.Sort.{Sort, out-Sort, roll-Sort, out-roll-Sort}
+use Rattle.sqlite_ast.specs.declared.Shown.{Shown}
 use Rattle.sqlite_resolve.specs.declared.state.State.{State}
-use Rattle.sqlite_resolve.specs.declared.state.Carried.{Carried}
-use Rattle.sqlite_resolve.specs.declared.scope.Bound.{Bound}
 use Rattle.sqlite_resolve.specs.declared.scope.Output.{Output}
 use Rattle.sqlite_resolve.specs.declared.scope.Found.TheVariants as found
-use Rattle.sqlite_resolve.specs.declared.compare.Affinity.{Affinity}
 use Rattle.sqlite_resolve.specs.declared.compare.Affinity.TheVariants as affinity
-use Rattle.sqlite_resolve.specs.Scope.{Name, Context, column, find, term_of, column_at, declared}
-use Rattle.sqlite_resolve.specs.Lowering.{Checked, Lowering, nothing, alone, chosen, first_found, spend, begin, finish}
-use Rattle.sqlite_resolve.specs.Compare.{compared, affinity_of, of_column, of_declared, converted}
-use Rattle.sqlite_resolve.specs.Expr.{node, opened, passes, lower_to, lower}
+use Rattle.sqlite_resolve.specs.Scope.{column}
+use Rattle.sqlite_resolve.specs.Expr.{opened}
 use Rattle.sqlite_resolve.specs.Body as body
 use Rattle.sqlite_resolve.specs.Order as order
-use Rattle.sqlite_tied.specs.Compute.{everything}
-use Rattle.office_tables.proofs.Simple.{out_parameter}
-use Rattle.office_tables.proofs.Whole.{at_budget}
 use Rattle.office_tables.proofs.LoweredTests as tests
 
 -- the collation of a column of a table

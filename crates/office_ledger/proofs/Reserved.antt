@@ -1,16 +1,5 @@
 -- The joined rows of lots give the reserved amount of each lot, at the first of its rows.
-use Rattle.std.specs.Prelude.{◌≡◌, ℕ, Bool, true, false, cond, List, [], ◌∷◌, ◌++◌, map, flat_map, None}
-use Rattle.std.proofs.Common.{refl, sym, ap, ◌∙◌}
-use Rattle.std.proofs.lemmas.List.{append_assoc, append-nil}
-use Rattle.office_base.specs.Rows.{IsInOrder}
-use Rattle.office_base.specs.Tables.{Tables, IsSorted, lot_cmp, lot_key, lots_of_line, contracts_of_lot}
-use Rattle.office_base.specs.Joined.{reservations}
-use Rattle.office_base.specs.declared.records.LotRow.{LotRow}
-use Rattle.office_ledger.specs.Joins.{with_contract, joined_contract, joined_lot, joined_lots}
-use Rattle.office_ledger.specs.Inside.Adding.{is_lot, fold_rows}
-use Rattle.office_ledger.specs.Inside.Listing.{LotListing, nothing_reserved, begin_lot, list_reserved, all_reserved}
-use Rattle.office_base.proofs.Orders.{lots_total}
-use Rattle.office_base.proofs.RowLaws.Filters.{in_order-filter}
+use Rattle.office_ledger.proofs.Names.{◌≡◌, ℕ, Bool, true, false, cond, List, [], ◌∷◌, ◌++◌, map, flat_map, None, refl, sym, ap, ◌∙◌, append_assoc, append-nil, IsInOrder, Tables, IsSorted, lot_cmp, lot_key, lots_of_line, contracts_of_lot, reservations, LotRow, with_contract, joined_contract, joined_lot, joined_lots, is_lot, fold_rows, LotListing, nothing_reserved, begin_lot, list_reserved, all_reserved, lots_total, in_order-filter}
 use Rattle.office_ledger.proofs.Lots.{same_itself, LotsAbove, not_open}
 use Rattle.office_ledger.proofs.Taken.{fold_rows-flat_map, grouped}
 

@@ -1,13 +1,5 @@
 -- The sums of a line stay below 2^128: each row adds at most three amounts.
-use Rattle.std.specs.Prelude.{◌≡◌, ℕ, ◌+◌, ◌^◌, ◌≤◌, Some}
-use Rattle.std.proofs.Common.{ap, arith}
-use Rattle.office_base.specs.EntrySums.{sums_with_entry}
-use Rattle.office_base.specs.declared.ledger.ContractSums.{ContractSums}
-use Rattle.office_base.specs.declared.records.EntryKind.{EntryKind}
-use Rattle.office_base.specs.declared.records.EntryKind.TheVariants.{Raise, Cut, Payment}
-use Rattle.office_ledger.specs.Inside.Adding.{open_sums, HasRoom}
-use Rattle.office_ledger.specs.declared.line_sums.OpenContract.{OpenContract}
-use Rattle.office_ledger.specs.declared.line_sums.LineSums.{LineSums}
+use Rattle.office_ledger.proofs.Names.{◌≡◌, ℕ, ◌+◌, ◌^◌, ◌≤◌, Some, ap, arith, sums_with_entry, ContractSums, EntryKind, Raise, Cut, Payment, open_sums, HasRoom, OpenContract, LineSums}
 
 record IsWithin (x y : ContractSums) : Type 0 where
   gained : y.gained ≤ x.gained + 2 ^ 50

@@ -1,21 +1,9 @@
 -- Scopes of known tables find the columns of these tables.
-use Rattle.std.proofs.Common.{◌≡◌, ◌∷◌, [], List, Option, Some, None, Ok, Bool, true, false, ℕ, suc, slice_get, codes, refl, sym, ap, ◌∙◌, arith}
-use Rattle.std.specs.List.{position_from}
-use Rattle.sqlite_value.specs.declared.keys.Collation.TheVariants.{Binary}
-use Rattle.sqlite_schema.specs.declared.schema.Schema.{Schema}
-use Rattle.sqlite_schema.specs.declared.schema.Table.{Table}
-use Rattle.sqlite_schema.specs.declared.schema.Column.{Column}
-use Rattle.sqlite_schema.specs.Names.{same_name, column_named, is_key, place_of}
-use Rattle.sqlite_resolve.specs.declared.scope.Bound.{Bound}
+use Rattle.office_ledger.proofs.Names.{◌≡◌, ◌∷◌, [], List, Option, Some, None, Ok, Bool, true, false, ℕ, suc, slice_get, codes, refl, sym, ap, ◌∙◌, arith, position_from, Binary, Schema, Table, Column, same_name, column_named, is_key, place_of, Bound, Name, find, in_level, only, hit, is_among, column_in, declared, of_column, of_declared, Trees4, Holds, HoldsFour, line_columns, lot_columns, contract_columns, entry_columns, among}
 use Rattle.sqlite_resolve.specs.declared.scope.Output.{Output}
 use Rattle.sqlite_resolve.specs.declared.scope.Found.TheVariants as found
-use Rattle.sqlite_resolve.specs.Scope.{Name, find, in_level, only, hit, is_among, column_in, declared}
-use Rattle.sqlite_resolve.specs.Compare.{of_column, of_declared}
 use Rattle.sqlite_resolve.specs.declared.compare.Affinity.TheVariants as affinity
-use Rattle.office_ledger.specs.Select.{Trees4}
-use Rattle.office_ledger.specs.Known.{Holds, HoldsFour, line_columns, lot_columns, contract_columns, entry_columns}
 use Rattle.office_ledger.proofs.Qualified.{Finds, plainly}
-use Rattle.office_tables.proofs.Whole.{among}
 
 abbrev pub bound_of : Name → ℕ → ℕ → Bound
 bound_of name at slot = record { name = name; table = at; slot = slot; shared = [] }

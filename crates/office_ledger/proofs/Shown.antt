@@ -1,18 +1,6 @@
 -- The select shows the join, in the order of its keys.
-use Rattle.std.proofs.Common.{◌≡◌, List, [], ◌∷◌, map, sym, ap, ◌∙◌, Less}
-use Rattle.std.proofs.lemmas.List.Sorted.{IsPermutation-sym, IsPermutation-trans}
-use Rattle.sqlite_trees.proofs.ListLemmas.{map-map, IsPermutation-same}
-use Rattle.sqlite_trees.specs.Tree.{Trees, IsAscending}
-use Rattle.sqlite_keyed.proofs.ListLemmas.{ascending-map}
-use Rattle.sqlite_keyed.proofs.SortLemmas.{sorted_unique}
-use Rattle.sqlite_sql.proofs.QueryLemmas.{output_cmp_total}
-use Rattle.sqlite_value.specs.declared.value.Value.{Value}
-use Rattle.sqlite_value.specs.Order.{Row}
-use Rattle.sqlite_sql.specs.Query.{Output, IsAnswerAs, output, output_cmp, matches_as}
-use Rattle.office_base.specs.Tables.{Tables, IsSorted}
-use Rattle.office_ledger.specs.Joins.{joined}
-use Rattle.office_ledger.specs.Select.{Trees4, joined_query}
-use Rattle.office_ledger.specs.Cells.{LineCells, LotCells, ContractCells, EntryCells, Show, joined_cells}
+use Rattle.office_ledger.proofs.Names.{◌≡◌, List, [], ◌∷◌, map, sym, ap, ◌∙◌, Less, IsPermutation-sym, IsPermutation-trans, map-map, IsPermutation-same, Trees, IsAscending, ascending-map, sorted_unique, output_cmp_total, Value, Row, IsAnswerAs, output, output_cmp, matches_as, Tables, IsSorted, joined, Trees4, joined_query, LineCells, LotCells, ContractCells, EntryCells, Show, joined_cells}
+use Rattle.sqlite_sql.specs.Query.{Output}
 use Rattle.office_ledger.proofs.Ascending.{joined_rises}
 use Rattle.office_ledger.proofs.Matched.{out, matched}
 

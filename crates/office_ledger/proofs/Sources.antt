@@ -1,28 +1,12 @@
 -- The sources of a SELECT that joins known tables.
-use Rattle.std.proofs.Common.{◌≡◌, ◌+◌, nat_lt, ◌∷◌, [], ◌++◌, List, Option, Some, None, Ok, Bool, true, false, ℕ, slice_get}
-use Rattle.std.specs.List.{list_all}
-use Rattle.sqlite_sql.specs.Term.{Term, reads_below}
-use Rattle.sqlite_schema.specs.declared.schema.Schema.{Schema}
-use Rattle.sqlite_schema.specs.declared.schema.Table.{Table}
-use Rattle.sqlite_schema.specs.Names.{table_named}
+use Rattle.office_ledger.proofs.Names.{◌≡◌, ◌+◌, nat_lt, ◌∷◌, [], ◌++◌, List, Option, Some, None, Ok, Bool, true, false, ℕ, slice_get, list_all, Term, reads_below, Schema, Table, table_named, Expr, Source, out-Source, roll-Source, out-roll-Source, Inner, Left, Carried, Bound, Joined, Name, conjuncts, Checked, take_slot, lower, at_budget, among}
 use Rattle.sqlite_ast.specs.declared.Origin.TheVariants as origin
-use Rattle.sqlite_ast.specs.declared.Expr.{Expr}
-use Rattle.sqlite_ast.specs.declared.Source.{Source, out-Source, roll-Source, out-roll-Source}
 use Rattle.sqlite_ast.specs.declared.Select.{Select}
-use Rattle.sqlite_draft.specs.declared.join.Step.TheVariants.{Inner, Left}
 use Rattle.sqlite_resolve.specs.declared.state.State.{State}
-use Rattle.sqlite_resolve.specs.declared.state.Carried.{Carried}
-use Rattle.sqlite_resolve.specs.declared.scope.Bound.{Bound}
 use Rattle.sqlite_resolve.specs.declared.scope.Output.{Output}
-use Rattle.sqlite_resolve.specs.declared.body.Joined.{Joined}
-use Rattle.sqlite_resolve.specs.Scope.{Name}
-use Rattle.sqlite_resolve.specs.Terms.{conjuncts}
-use Rattle.sqlite_resolve.specs.Lowering.{Checked, take_slot}
-use Rattle.sqlite_resolve.specs.Expr.{lower}
 use Rattle.sqlite_resolve.specs.Body as body
 use Rattle.sqlite_resolve.specs.Program as program
 use Rattle.office_ledger.proofs.Scoped.{bound_of}
-use Rattle.office_tables.proofs.Whole.{at_budget, among}
 
 -- ---- the parts of the text
 

@@ -1,27 +1,5 @@
 -- Rows that hold a table show its records, in some order.
-use Rattle.std.proofs.Common.{◌≡◌, inl, inr, true, false, List, [], ◌∷◌, map, refl, sym, ap, subst, Ordering, Less, Equal, Greater, true≢false}
-use Rattle.std.specs.List.{AllByRecursion}
-use Rattle.std.specs.List.Sorted.{IsPermutation}
-use Rattle.std.proofs.lemmas.Bool.{cases_Bool}
-use Rattle.std.proofs.lemmas.List.Sorted.{IsPermutation-refl, IsPermutation-trans, IsPermutation-cons, IsPermutation-append_comm, IsPermutation-append_left}
-use Rattle.std.specs.Cmp.{tied_itself}
-use Rattle.std.specs.FinMap.{IsAntisymmetric, nat_cmp-IsAntisymmetric}
-use Rattle.std.specs.Ordering.{is_eq, nat_cmp}
-use Rattle.sqlite_value.specs.declared.value.Value.{Value}
-use Rattle.sqlite_value.specs.Order.{Row, value_cmp}
-use Rattle.sqlite_value.proofs.OrderLemmas.{value_cmp_total}
-use Rattle.sqlite_trees.specs.Tree.{rowid, IsTable}
-use Rattle.sqlite_trees.specs.View.{is_int}
-use Rattle.sqlite_rules.specs.Lists.{Has}
-use Rattle.sqlite_rules.proofs.ListLemmas.{all_has, all_from}
-use Rattle.office_values.specs.Ids.{id_cmp}
-use Rattle.office_base.specs.Rows.{by_order, row_put}
-use Rattle.office_base.proofs.Orders.{equal_from_test}
-use Rattle.office_base.proofs.ExactKeys.{ids_exact, lots_exact, entries_exact}
-use Rattle.office_base.specs.Tables.{lot_cmp, entry_cmp, line_key, lot_key, contract_key, entry_key}
-use Rattle.office_tables.specs.Kept.{rows_kept}
-use Rattle.office_ledger.specs.Cells.{LineCells, LotCells, ContractCells, EntryCells, Paired}
-use Rattle.office_ledger.specs.Standing.{ShowsBy, StoredRowsShow}
+use Rattle.office_ledger.proofs.Names.{◌≡◌, inl, inr, true, false, List, [], ◌∷◌, map, refl, sym, ap, subst, Ordering, Less, Equal, Greater, true≢false, AllByRecursion, IsPermutation, cases_Bool, IsPermutation-refl, IsPermutation-trans, IsPermutation-cons, IsPermutation-append_comm, IsPermutation-append_left, tied_itself, IsAntisymmetric, nat_cmp-IsAntisymmetric, is_eq, nat_cmp, Value, Row, value_cmp, value_cmp_total, rowid, IsTable, is_int, Has, all_has, all_from, id_cmp, by_order, row_put, equal_from_test, ids_exact, lots_exact, entries_exact, lot_cmp, entry_cmp, line_key, lot_key, contract_key, entry_key, rows_kept, LineCells, LotCells, ContractCells, EntryCells, Paired, ShowsBy, StoredRowsShow}
 
 less_differs : (a b : Row) → value_cmp (rowid a) (rowid b) ≡ Less → a ≡ b → ⊥
 less_differs a b l e = let t = tied_itself value_cmp_total (rowid b) in let m = ap (λ z. value_cmp (rowid z) (rowid b)) e in cc

@@ -1,8 +1,5 @@
 -- Rows that are taken one after another, in several lists, and in groups that each have a head.
-use Rattle.std.specs.Prelude.{◌≡◌, List, [], ◌∷◌, ◌++◌, map, flat_map, Option, Some, None}
-use Rattle.std.proofs.Common.{refl, ap, ◌∙◌}
-use Rattle.office_ledger.specs.Joins.{or_none}
-use Rattle.office_ledger.specs.Inside.Adding.{fold_rows}
+use Rattle.office_ledger.proofs.Names.{◌≡◌, List, [], ◌∷◌, ◌++◌, map, flat_map, Option, Some, None, refl, ap, ◌∙◌, or_none, fold_rows}
 
 module _ {R S : Type 0} (take : R → S → S) where
   pub fold_rows-append : (xs ys : List R) (s : S) → fold_rows take (xs ++ ys) s ≡ fold_rows take ys (fold_rows take xs s)

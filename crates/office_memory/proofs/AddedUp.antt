@@ -1,16 +1,5 @@
 -- Lemmas for adding up the entries of contracts and the lines of the ledger.
-use Rattle.std.specs.Prelude.{◌≡◌, ℕ, ◌+◌, ◌^◌, ◌≤◌, List, Some, None}
-use Rattle.std.proofs.Common.{sym, ap, ◌∙◌, subst, arith}
-use Rattle.office_base.specs.EntrySums.{sums_with_entry}
-use Rattle.office_base.specs.Tables.{Tables, IsSorted}
-use Rattle.office_base.specs.Joined.{reservations, sums_of_line}
-use Rattle.office_base.specs.LineSums.{pots_with, SumsFit, JoinedSums}
-use Rattle.office_base.specs.declared.ledger.ContractSums.{ContractSums}
-use Rattle.office_base.specs.declared.ledger.Pots.{Pots}
-use Rattle.office_base.specs.declared.records.EntryKind.{EntryKind}
-use Rattle.office_base.specs.declared.records.EntryKind.TheVariants.{Raise, Cut, Payment}
-use Rattle.office_base.specs.declared.records.LineRow.{LineRow}
-use Rattle.office_memory.specs.Inside.Adding.{HasRoom, IsLedgerRow}
+use Rattle.office_memory.proofs.Names.{◌≡◌, ℕ, ◌+◌, ◌^◌, ◌≤◌, List, Some, None, sym, ap, ◌∙◌, subst, arith, sums_with_entry, Tables, IsSorted, reservations, sums_of_line, pots_with, SumsFit, JoinedSums, ContractSums, Pots, EntryKind, Raise, Cut, Payment, LineRow, HasRoom, IsLedgerRow}
 
 -- after one of n + 1 entries is added, n more still fit into 128 bits
 pub entry_room : (k : EntryKind) (amount : ℕ) (sums new : ContractSums) → new ≡ sums_with_entry k amount sums → amount ≤ 2 ^ 50 → (n : ℕ) → HasRoom (n + 1) sums → HasRoom n new

@@ -1,11 +1,5 @@
 -- Changes that were all made fulfil the promise of `apply`.
-use Rattle.std.specs.Prelude.{◌≡◌, ℕ, List, Ok}
-use Rattle.std.proofs.Common.{sym, ap, ◌∙◌}
-use Rattle.office_base.specs.Tables.{Tables, after_puts, ChangesKeepOrder}
-use Rattle.office_base.specs.Shelves.{Alters}
-use Rattle.office_memory.specs.MemoryMeaning.{memory_meaning}
-use Rattle.office_base.specs.declared.puts.Put.{Put}
-use Rattle.office_base.specs.declared.shelf.ShelfFault.{ShelfFault}
+use Rattle.office_memory.proofs.Names.{◌≡◌, ℕ, List, Ok, sym, ap, ◌∙◌, Tables, after_puts, ChangesKeepOrder, Alters, memory_meaning, Put, ShelfFault}
 
 pub all_made : ChangesKeepOrder → (old new : Tables × ℕ) (ps : List Put) → new.0 ≡ after_puts ps old.0 → Alters {T = Unit {0}} {E = ShelfFault} memory_meaning old new (Ok tt) (after_puts ps)
 all_made kept old new ps made = record {

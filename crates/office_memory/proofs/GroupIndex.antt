@@ -1,22 +1,6 @@
 -- An index finds the rows of a group, before and after changes of its table.
-use Rattle.std.specs.Prelude.{◌≡◌, Bool, true, false, cond, ◌&&◌, List, [], ◌∷◌, filter, Some, Result, Ok, Err, OnOk, OnErr}
-use Rattle.std.proofs.Common.{refl, sym, ap, ◌∙◌, subst}
-use Rattle.std.specs.BTreeMap.{get, is_at}
-use Rattle.std.specs.BTreeSet.{BTreeSet, contains}
-use Rattle.std.specs.Cmp.{IsTotalOrder}
-use Rattle.std.specs.List.{AllByRecursion, list_any, filter_map}
-use Rattle.std.specs.List.Sorted.{IsStrictlySortedBy}
-use Rattle.std.specs.Map.{lookup}
-use Rattle.std.specs.Ordering.{is_eq}
-use Rattle.std.specs.declared.cmp.Ordering.{Ordering}
-use Rattle.std.specs.declared.cmp.Ordering.TheVariants.{Equal}
-use Rattle.std.proofs.lemmas.Bool.{and_parts, or_left}
-use Rattle.office_memory.specs.Inside.GroupIndex.{KeysOfGroups, keys_in, keys_of, has_key, HasRows, IsIndexed}
-use Rattle.office_base.specs.Rows.{row_at, row_put, row_drop, IsInOrder}
+use Rattle.office_memory.proofs.Names.{◌≡◌, Bool, true, false, cond, ◌&&◌, List, [], ◌∷◌, filter, Some, Result, Ok, Err, OnOk, OnErr, refl, sym, ap, ◌∙◌, subst, get, is_at, BTreeSet, contains, IsTotalOrder, AllByRecursion, list_any, filter_map, IsStrictlySortedBy, lookup, is_eq, Ordering, Equal, and_parts, or_left, KeysOfGroups, keys_in, keys_of, has_key, HasRows, IsIndexed, row_at, row_put, row_drop, IsInOrder, same_key, equal_from_test, all-put, all-drop}
 use Rattle.office_memory.proofs.KeyLists.{all_found}
-use Rattle.office_base.proofs.Orders.{same_key, equal_from_test}
-use Rattle.office_base.proofs.RowLaws.{all-put}
-use Rattle.keyed_table.proofs.RowDropped.{all-drop}
 
 pub contains_more : (test was : Bool) → was ≡ true → cond test true was ≡ true
 contains_more true was h = refl

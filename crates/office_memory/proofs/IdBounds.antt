@@ -1,14 +1,5 @@
 -- Every identifier is between the least and the greatest one.
-use Rattle.std.specs.Prelude.{◌≡◌, ℕ, zero, suc, ◌≤◌, true, false, IsTrue, List, [], ◌∷◌, length, All, replicate}
-use Rattle.std.proofs.Common.{refl, arith, lit≤}
-use Rattle.std.specs.Ordering.{nat_cmp, ordering_then, is_le, is_lt}
-use Rattle.std.specs.Cmp.Lexicographic.{slice_cmp}
-use Rattle.std.specs.declared.cmp.Ordering.{Ordering}
-use Rattle.std.specs.declared.cmp.Ordering.TheVariants.{Less}
-use Rattle.std.proofs.lemmas.Bool.Decides.{nat_tests}
-use Rattle.std.proofs.lemmas.List.Elements.{All-head, All-tail, All-replicate}
-use Rattle.office_values.specs.Ids.{is_id_byte, IsId, id_cmp}
-use Rattle.office_memory.specs.Inside.IdBounds.{least, greatest}
+use Rattle.office_memory.proofs.Names.{◌≡◌, ℕ, zero, suc, ◌≤◌, true, false, IsTrue, List, [], ◌∷◌, length, All, replicate, refl, arith, lit≤, nat_cmp, ordering_then, is_le, is_lt, slice_cmp, Ordering, Less, nat_tests, All-head, All-tail, All-replicate, is_id_byte, IsId, id_cmp, least, greatest}
 
 least_byte : (b : ℕ) → is_id_byte b ≡ true → 45 ≤ b
 least_byte b h = grind (arith, nat_tests)

@@ -1,17 +1,6 @@
 -- The keys of a parent's rows are those between the least and the greatest key that begin with the parent's.
-use Rattle.std.specs.Prelude.{◌≡◌, ℕ, ◌<◌, ◌-◌, ◌^◌, Bool, true, false, not, ◌&&◌, List}
-use Rattle.std.proofs.Common.{refl, sym, ap, ◌∙◌, arith}
-use Rattle.std.specs.Cmp.{IsTotalOrder}
-use Rattle.std.specs.Ordering.{nat_cmp, ordering_then, is_eq, is_le, is_lt, is_gt}
-use Rattle.std.specs.declared.cmp.Ordering.{Ordering}
-use Rattle.std.specs.declared.cmp.Ordering.TheVariants.{Less, Equal, Greater}
-use Rattle.std.proofs.Math.Bool.{and-true}
-use Rattle.std.proofs.lemmas.Bool.{and_from, not_from_false}
-use Rattle.std.proofs.lemmas.Bool.Decides.{nat_tests}
-use Rattle.office_values.specs.Ids.{IsId, id_cmp}
-use Rattle.office_memory.specs.Inside.IdBounds.{least, greatest}
+use Rattle.office_memory.proofs.Names.{◌≡◌, ℕ, ◌<◌, ◌-◌, ◌^◌, Bool, true, false, not, ◌&&◌, List, refl, sym, ap, ◌∙◌, arith, IsTotalOrder, nat_cmp, ordering_then, is_eq, is_le, is_lt, is_gt, Ordering, Less, Equal, Greater, and-true, and_from, not_from_false, nat_tests, IsId, id_cmp, least, greatest, same_key}
 use Rattle.office_memory.proofs.IdBounds.{is_le-least, is_lt-greatest, least-greatest}
-use Rattle.office_base.proofs.Orders.{same_key}
 
 -- a pair is between two pairs with equal first parts exactly if its first part equals theirs and its second part is between theirs
 begins_alike : (c low high : Ordering) → is_le (ordering_then c low) && not (is_lt (ordering_then c high)) ≡ is_eq c && (is_le low && not (is_lt high))

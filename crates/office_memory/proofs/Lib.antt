@@ -1,3 +1,4 @@
+pub mod Names
 pub mod RowsDropped
 pub mod KeyLists
 pub mod IdBounds

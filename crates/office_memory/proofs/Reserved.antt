@@ -1,7 +1,5 @@
 -- The reserved amounts of borrowed lots are those of the lots.
-use Rattle.std.specs.Prelude.{◌≡◌, List, [], ◌∷◌, map}
-use Rattle.std.proofs.Common.{Bor, refl, ap, ◌∙◌}
-use Rattle.office_base.specs.declared.records.LotRow.{LotRow}
+use Rattle.office_memory.proofs.Names.{◌≡◌, List, [], ◌∷◌, map, Bor, refl, ap, ◌∙◌, LotRow}
 
 each_reserved : (lots : List (Bor LotRow)) → map (λ lot. lot.now.reserved) lots ≡ map (λ (lot : LotRow). lot.reserved) (map (λ lot. lot.now) lots)
 each_reserved [] = refl

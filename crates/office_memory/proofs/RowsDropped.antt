@@ -1,17 +1,5 @@
 -- Putting a row after drops is the same as dropping after the put, unless a drop has the row's key.
-use Rattle.std.specs.Prelude.{◌≡◌, Bool, true, false, cond, not, List, [], ◌∷◌, ◌++◌, filter}
-use Rattle.std.proofs.Common.{refl, sym, ap, ◌∙◌}
-use Rattle.std.specs.Cmp.{IsTotalOrder}
-use Rattle.std.specs.Ordering.{is_eq, eq_by_cmp, ordering_reverse}
-use Rattle.std.specs.declared.cmp.Ordering.{Ordering}
-use Rattle.std.specs.declared.cmp.Ordering.TheVariants.{Less, Equal, Greater}
-use Rattle.office_base.specs.RowLaws.{RowsAreKept}
-use Rattle.office_base.specs.Rows.{by_order, row_put, row_drop, IsInOrder}
-use Rattle.office_base.proofs.Orders.{alike_right}
-use Rattle.office_base.proofs.RowLaws.Starts.{tied}
-use Rattle.office_base.proofs.RowLaws.Puts.{put_first}
-use Rattle.office_base.proofs.RowLaws.Drops.{start-drop}
-use Rattle.office_memory.specs.Inside.Drops.{rows_drop}
+use Rattle.office_memory.proofs.Names.{◌≡◌, Bool, true, false, cond, not, List, [], ◌∷◌, ◌++◌, filter, refl, sym, ap, ◌∙◌, IsTotalOrder, is_eq, eq_by_cmp, ordering_reverse, Ordering, Less, Equal, Greater, RowsAreKept, by_order, row_put, row_drop, IsInOrder, alike_right, tied, put_first, start-drop, rows_drop}
 
 cons_cond : {X : Type 0} (b : Bool) (x : X) (xs ys : List X) → x ∷ cond b xs ys ≡ cond b (x ∷ xs) (x ∷ ys)
 cons_cond true x xs ys = refl

@@ -1,14 +1,5 @@
 -- Sealed bytes that are put while others are still to be dropped.
-use Rattle.std.specs.Prelude.{◌≡◌, ℕ, not, nat_eq, List, filter}
-use Rattle.std.proofs.Common.{sym, ap, arith}
-use Rattle.std.specs.Cmp.{nat_cmp_total}
-use Rattle.std.specs.Ordering.{nat_cmp, eq_by_cmp}
-use Rattle.std.proofs.lemmas.Bool.Decides.{nat_tests}
-use Rattle.office_base.specs.RowLaws.{RowsAreKept}
-use Rattle.office_base.specs.Rows.{IsInOrder}
-use Rattle.office_base.specs.Tables.{seal_key, put_seal}
-use Rattle.office_base.specs.declared.records.SealRow.{SealRow}
-use Rattle.office_memory.specs.Inside.Drops.{rows_drop}
+use Rattle.office_memory.proofs.Names.{◌≡◌, ℕ, not, nat_eq, List, filter, sym, ap, arith, nat_cmp_total, nat_cmp, eq_by_cmp, nat_tests, RowsAreKept, IsInOrder, seal_key, put_seal, SealRow, rows_drop}
 use Rattle.office_memory.proofs.RowsDropped.{put_over_drops}
 
 number_test : (a b : ℕ) → nat_eq a b ≡ eq_by_cmp nat_cmp a b

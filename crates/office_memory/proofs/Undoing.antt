@@ -1,10 +1,5 @@
 -- Taking changes back, with a list of them from the first to the last.
-use Rattle.std.specs.Prelude.{◌≡◌, List, [], ◌∷◌, ◌++◌}
-use Rattle.std.proofs.Common.{refl, sym, ap, ◌∙◌, subst}
-use Rattle.office_base.specs.Tables.{Tables, after_put, after_puts}
-use Rattle.office_memory.specs.MemoryTables.{after_undo, after_undos, CanUndo, CanUndoAll}
-use Rattle.office_memory.specs.declared.tables.Undo.{Undo}
-use Rattle.office_base.specs.declared.puts.Put.{Put}
+use Rattle.office_memory.proofs.Names.{◌≡◌, List, [], ◌∷◌, ◌++◌, refl, sym, ap, ◌∙◌, subst, Tables, after_put, after_puts, after_undo, after_undos, CanUndo, CanUndoAll, Undo, Put}
 
 -- the last change of the list is taken back first
 pub after_undos-push : (us : List Undo) (u : Undo) (t : Tables) → after_undos (us ++ u ∷ []) t ≡ after_undos us (after_undo u t)

@@ -1,17 +1,6 @@
 -- The changes of an award depend on the securities of its lot only if nobody wins.
-use Rattle.std.specs.Prelude.{◌≡◌, ℕ, List, Option, Some, None}
-use Rattle.std.proofs.Common.{refl}
-use Rattle.award_core.specs.Rules.Award.{award_puts, award_rows, decision_puts, winner}
-use Rattle.award_core.specs.declared.award.AwardRows.{AwardRows}
-use Rattle.office_base.specs.Tables.{Tables, envelopes_of_lot, notice_at, lot_at, securities_of_lot}
+use Rattle.office_plans.proofs.Names.{◌≡◌, ℕ, List, Option, Some, None, refl, award_puts, award_rows, decision_puts, winner, AwardRows, Tables, envelopes_of_lot, notice_at, lot_at, securities_of_lot, ClockRow, EnvelopeRow, LineRow, LotRow, NoticeRow, SecurityRow, awarded_rows, securities_unless_won}
 use Rattle.office_base.specs.Parents.{line_of_lot}
-use Rattle.office_base.specs.declared.records.ClockRow.{ClockRow}
-use Rattle.office_base.specs.declared.records.EnvelopeRow.{EnvelopeRow}
-use Rattle.office_base.specs.declared.records.LineRow.{LineRow}
-use Rattle.office_base.specs.declared.records.LotRow.{LotRow}
-use Rattle.office_base.specs.declared.records.NoticeRow.{NoticeRow}
-use Rattle.office_base.specs.declared.records.SecurityRow.{SecurityRow}
-use Rattle.office_plans.specs.AwardedLots.{awarded_rows, securities_unless_won}
 
 module _ (notice lot : List ℕ) (s : Tables) (t : ℕ) where
   -- A decision makes the same changes by all securities of the lot as by `securities_unless_won`, with a winner and without one.

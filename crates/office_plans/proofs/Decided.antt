@@ -1,15 +1,5 @@
 -- The facts that follow from a decision on rows (`Decides`).
-use Rattle.std.specs.Prelude.{◌≡◌, ◌⊎◌, Bool, false, List, Option, Some, None, Result, Vec, Ok, Err, IsErrAnd}
-use Rattle.std.proofs.Common.{◌∙◌, refl, sym, subst, inl, inr}
-use Rattle.std.specs.declared.alloc.Global.{Global}
-use Rattle.office_values.specs.declared.refusal.Refusal.{Refusal}
-use Rattle.office_values.specs.declared.refusal.Refusal.TheVariants.{Unavailable}
-use Rattle.office_values.specs.declared.settings.Publisher.{Publisher}
-use Rattle.office_base.specs.Deciding.{Decides}
-use Rattle.office_base.specs.declared.puts.Put.{Put}
-use Rattle.office_machine.specs.Machine.{Given, refusal_of}
-use Rattle.office_plans.specs.Plans.{Plan}
-use Rattle.office_plans.specs.Published.{IsPlanned}
+use Rattle.office_plans.proofs.Names.{◌≡◌, ◌⊎◌, Bool, false, List, Option, Some, None, Result, Vec, Ok, Err, IsErrAnd, ◌∙◌, refl, sym, subst, inl, inr, Global, Refusal, Unavailable, Publisher, Decides, Put, Given, refusal_of, Plan, IsPlanned}
 
 -- An `Err` is the first refusal whose condition holds, or `Unavailable`.
 pub refuses : (why : Refusal) (first : Option Refusal) (lacks : Bool) (made : List Put) → Decides (Err why) first lacks made → (first ≡ Some why) ⊎ (why ≡ Unavailable)

@@ -1,13 +1,6 @@
 -- A notice has a merge that the next release can join if the stored merge is of the notice's process, as the office writes it. If no merge is stored, each release
 -- must be.
-use Rattle.std.proofs.Common.{◌≡◌, ℕ, List, None, Result, Ok, Err, subst}
-use Rattle.std.specs.Prelude.{OnOk}
-use Rattle.ocds_merge.specs.Stored.{IsWrittenMerge}
-use Rattle.office_base.specs.Tables.{Tables, compiled_at}
-use Rattle.office_base.specs.declared.records.CompiledRow.{CompiledRow}
-use Rattle.office_publications.specs.Merges.{AreWritten, CanGoOn, HasMerge, IsKeptOf}
-use Rattle.office_publications.specs.declared.merges.Kept.{Kept}
-use Rattle.office_publications.specs.declared.merges.Kept.TheVariants.{Merge, Releases}
+use Rattle.office_plans.proofs.Names.{◌≡◌, ℕ, List, None, Result, Ok, Err, subst, OnOk, IsWrittenMerge, Tables, compiled_at, CompiledRow, AreWritten, CanGoOn, HasMerge, IsKeptOf, Kept, Merge, Releases}
 
 pub has_merge : (ocid notice : List ℕ) (s : Tables) (k : Kept) → IsKeptOf notice s k → CanGoOn ocid k → HasMerge ocid notice s
 has_merge ocid notice s (Merge m) kept goes = (

@@ -1,3 +1,4 @@
+pub mod Names
 pub mod OneByOne
 pub mod Decided
 pub mod KeptObjects

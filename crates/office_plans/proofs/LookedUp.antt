@@ -1,15 +1,5 @@
 -- Each row that was looked up by its key is equal to the row of the table in which it was looked up.
-use Rattle.std.specs.Prelude.{◌≡◌, ◌⊎◌, ℕ, true, false, Bool, cond, List, [], Option, Some, None, is_some}
-use Rattle.std.proofs.Common.{refl, sym, ap, ◌∙◌, inl, inr}
-use Rattle.std.specs.Ordering.{eq_by_cmp, is_eq, ordering_then}
-use Rattle.std.specs.declared.cmp.Ordering.{Ordering}
-use Rattle.std.specs.declared.cmp.Ordering.TheVariants.{Less, Equal, Greater}
-use Rattle.std.proofs.lemmas.Map.Lookups.{exact_bytes}
-use Rattle.office_values.specs.Ids.{id_cmp}
-use Rattle.office_base.specs.Rows.{row_at, row_put}
-use Rattle.office_base.specs.RowLaws.{RowsAreKept}
-use Rattle.office_base.specs.Tables.{lot_cmp}
-use Rattle.office_plans.specs.LookedUp.{with_row, IsAsIn, AreFrom}
+use Rattle.office_plans.proofs.Names.{◌≡◌, ◌⊎◌, ℕ, true, false, Bool, cond, List, [], Option, Some, None, is_some, refl, sym, ap, ◌∙◌, inl, inr, eq_by_cmp, is_eq, ordering_then, Ordering, Less, Equal, Greater, exact_bytes, id_cmp, row_at, row_put, RowsAreKept, lot_cmp, with_row, IsAsIn, AreFrom}
 
 -- A comparison that passes the test of equality is `Equal`.
 pub equal_from_test : (r : Ordering) → is_eq r ≡ true → r ≡ Equal

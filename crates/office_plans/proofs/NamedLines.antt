@@ -1,12 +1,5 @@
 -- Lines that were looked up by their names: each named line is equal to the office's line.
-use Rattle.std.specs.Prelude.{◌≡◌, ℕ, List, [], ◌∷◌, map}
-use Rattle.std.specs.List.{AllByRecursion}
-use Rattle.office_values.specs.Ids.{id_cmp}
-use Rattle.office_base.specs.RowLaws.{RowsAreKept}
-use Rattle.office_base.specs.Tables.{Tables, line_key, find_line, line_at}
-use Rattle.office_base.specs.declared.records.LineRow.{LineRow}
-use Rattle.office_plans.specs.LookedUp.{IsAsIn, AreFrom}
-use Rattle.office_plans.specs.Named.{with_line, with_lines, lines_named}
+use Rattle.office_plans.proofs.Names.{◌≡◌, ℕ, List, [], ◌∷◌, map, AllByRecursion, id_cmp, RowsAreKept, Tables, line_key, find_line, line_at, LineRow, IsAsIn, AreFrom, with_line, with_lines, lines_named}
 use Rattle.office_plans.proofs.LookedUp.{exact_ids, here, kept, from_one, none_from}
 
 module _ (laws : RowsAreKept id_cmp line_key) (t : Tables) {X : Type 0} (line_of : X → List ℕ) where

@@ -1,22 +1,5 @@
 -- Each `Standing` that was looked up by the name of its line is equal to the one in the office.
-use Rattle.std.specs.Prelude.{◌≡◌, ℕ, Bool, true, false, cond, List, [], ◌∷◌, map, Option, Some, IsSome, is_some, option_and_then}
-use Rattle.std.proofs.Common.{refl, sym, ap, ◌∙◌, subst}
-use Rattle.std.specs.Ordering.{eq_by_cmp}
-use Rattle.std.specs.declared.cmp.Ordering.{Ordering}
-use Rattle.std.specs.declared.cmp.Ordering.TheVariants.{Less, Equal, Greater}
-use Rattle.std.proofs.lemmas.Map.Lookups.{exact_bytes}
-use Rattle.office_values.specs.Ids.{id_cmp}
-use Rattle.office_values.specs.Money.{total_limit}
-use Rattle.office_commands.specs.declared.budget.BudgetRow.{BudgetRow}
-use Rattle.office_base.specs.Rows.{by_order, row_at, row_put}
-use Rattle.office_base.specs.RowLaws.{RowsAreKept}
-use Rattle.office_base.specs.Standings.{find_standing, put_standing, columns_at, standing_key, standings}
-use Rattle.office_base.specs.Tables.{Tables, line_at}
-use Rattle.office_base.specs.declared.standing.Columns.{Columns}
-use Rattle.office_base.specs.declared.standing.Standing.{Standing}
-use Rattle.tender_core.specs.Agreeing.{ImportsAgree, AgreeOnRows}
-use Rattle.tender_core.specs.Walks.{IsAtMost, AreAtMost}
-use Rattle.office_plans.specs.Named.{StillThere, line_of_row, standing_at, with_new_standing, with_standing, with_standings, standings_named}
+use Rattle.office_plans.proofs.Names.{◌≡◌, ℕ, Bool, true, false, cond, List, [], ◌∷◌, map, Option, Some, IsSome, is_some, option_and_then, refl, sym, ap, ◌∙◌, subst, eq_by_cmp, Ordering, Less, Equal, Greater, exact_bytes, id_cmp, total_limit, BudgetRow, by_order, row_at, row_put, RowsAreKept, find_standing, put_standing, columns_at, standing_key, standings, Tables, line_at, Columns, Standing, ImportsAgree, AgreeOnRows, IsAtMost, AreAtMost, StillThere, line_of_row, standing_at, with_new_standing, with_standing, with_standings, standings_named}
 use Rattle.office_plans.proofs.LookedUp.{equal_from_test}
 
 -- Each line that has a `Standing` here has the columns of the office.

@@ -1,27 +1,5 @@
 -- Tenderers that were looked up by their identifiers are the office's tenderers with these identifiers, in the order of the identifiers.
-use Rattle.std.specs.Prelude.{◌≡◌, ℕ, Bool, true, false, cond, ◌||◌, ◌&&◌, List, [], ◌∷◌, map, filter, Option, Some, None, is_some}
-use Rattle.std.proofs.Common.{refl, sym, ap, ◌∙◌, subst}
-use Rattle.std.specs.Cmp.Lexicographic.{texts_ties}
-use Rattle.std.specs.List.{AllByRecursion, list_any}
-use Rattle.std.specs.Ordering.{is_eq}
-use Rattle.std.specs.declared.cmp.Ordering.{Ordering}
-use Rattle.std.specs.declared.cmp.Ordering.TheVariants.{Less, Equal, Greater}
-use Rattle.office_values.specs.Ids.{id_cmp, same_id}
-use Rattle.office_base.specs.Rows.{by_order, row_at, row_put, StartsAbove, IsInOrder}
-use Rattle.office_base.specs.Tables.{Tables, envelopes_of_notice, find_tenderer, put_tenderer, tenderer_key}
-use Rattle.office_base.specs.declared.records.EnvelopeRow.{EnvelopeRow}
-use Rattle.office_base.specs.declared.records.TendererRow.{TendererRow}
-use Rattle.office_base.proofs.RowLaws.Keyed.{found_key}
-use Rattle.office_base.proofs.RowLaws.Starts.{start_of, tied, all_above, none_below}
-use Rattle.office_base.proofs.RowLaws.Puts.{put_first}
-use Rattle.office_base.proofs.RowLaws.Filters.{all_filter}
-use Rattle.office_machine.proofs.Rows.Keyed.{tenderers}
-use Rattle.office_publications.specs.NoticeEvents.{has_sealed}
-use Rattle.tender_core.specs.Rules.Open.{is_sealed_envelope}
-use Rattle.office_plans.specs.LookedUp.{with_row}
-use Rattle.office_machine.specs.Rule.{sealed_of_notice}
-use Rattle.office_plans.specs.Opening.{tender_read, tenders_read}
-use Rattle.office_plans.specs.Tenderers.{tenderer_of, tenderers_named, with_tenderers}
+use Rattle.office_plans.proofs.Names.{◌≡◌, ℕ, Bool, true, false, cond, ◌||◌, ◌&&◌, List, [], ◌∷◌, map, filter, Option, Some, None, is_some, refl, sym, ap, ◌∙◌, subst, texts_ties, AllByRecursion, list_any, is_eq, Ordering, Less, Equal, Greater, id_cmp, same_id, by_order, row_at, row_put, StartsAbove, IsInOrder, Tables, envelopes_of_notice, find_tenderer, put_tenderer, tenderer_key, EnvelopeRow, TendererRow, found_key, start_of, tied, all_above, none_below, put_first, all_filter, tenderers, has_sealed, is_sealed_envelope, with_row, sealed_of_notice, tender_read, tenders_read, tenderer_of, tenderers_named, with_tenderers}
 
 or_false : (b : Bool) → (b || false) ≡ b
 or_false true = refl

@@ -1,19 +1,5 @@
 -- A release that has its notice's next number and the command's moment is the release that the command publishes.
-use Rattle.std.specs.Prelude.{◌≡◌, ℕ, ◌+◌, List, Option, Some, option_and_then}
-use Rattle.std.proofs.Common.{◌∙◌, ap, ap₂, sym}
-use Rattle.serde_json.specs.Data.{Data}
-use Rattle.serde_json.specs.Written.{compact_text}
-use Rattle.ocds_release.specs.Events.{release_of_event}
-use Rattle.ocds_release.specs.declared.event.Event.{Event}
-use Rattle.office_base.specs.Tables.{notice_at}
-use Rattle.office_base.specs.declared.records.ReleaseRow.{ReleaseRow}
-use Rattle.office_machine.specs.Machine.{Given, publication, time_of}
-use Rattle.office_machine.specs.Publications.{published_for}
-use Rattle.office_machine.specs.Counted.{releases_in}
-use Rattle.office_publications.specs.Events.{event_of}
-use Rattle.office_publications.specs.Keeping.{EventsAreReleased}
-use Rattle.office_publications.specs.Publishing.{publishing}
-use Rattle.office_values.specs.declared.settings.Publisher.{Publisher}
+use Rattle.office_plans.proofs.Names.{◌≡◌, ℕ, ◌+◌, List, Option, Some, option_and_then, ◌∙◌, ap, ap₂, sym, Data, compact_text, release_of_event, Event, notice_at, ReleaseRow, Given, publication, time_of, published_for, releases_in, event_of, EventsAreReleased, publishing, Publisher}
 
 module _ (released : EventsAreReleased) (publisher : Publisher) (x : Given) (event : Event) (notice : List ℕ) where
   abbrev row : ℕ → ℕ → Data → ReleaseRow

@@ -1,16 +1,5 @@
 -- The number of a release that was made, as the reply to its command returns it.
-use Rattle.std.specs.Prelude.{◌≡◌, ℕ, ◌+◌, List, Option, Some, None, option_map}
-use Rattle.std.proofs.Common.{◌∙◌, ap, sym}
-use Rattle.office_values.specs.declared.settings.Publisher.{Publisher}
-use Rattle.office_base.specs.Tables.{notice_at}
-use Rattle.office_base.specs.declared.records.AwardRow.{AwardRow}
-use Rattle.office_base.specs.declared.records.ContractRow.{ContractRow}
-use Rattle.office_machine.specs.Counted.{releases_in}
-use Rattle.office_machine.specs.Machine.{Given}
-use Rattle.office_machine.specs.Publications.{published_for}
-use Rattle.office_machine.specs.Replies.{release_of, release_of_award, release_of_contract}
-use Rattle.office_plans.specs.Released.{IsReleased}
-use Rattle.office_plans.specs.declared.published.Released.{Released}
+use Rattle.office_plans.proofs.Names.{◌≡◌, ℕ, ◌+◌, List, Option, Some, None, option_map, ◌∙◌, ap, sym, Publisher, notice_at, AwardRow, ContractRow, releases_in, Given, published_for, release_of, release_of_award, release_of_contract, IsReleased, Released}
 
 module _ {publisher : Publisher} {x : Given} {r : Released} (made : IsReleased publisher x r) where
   pub numbered_notice : (notice : List ℕ) → published_for x.before x.command ≡ Some notice → r.seq ≡ release_of x.before.notices notice

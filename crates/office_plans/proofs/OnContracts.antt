@@ -1,6 +1,5 @@
 -- Replies to commands on contracts are equal if their parts are equal.
-use Rattle.std.specs.Prelude.{◌≡◌, ℕ}
-use Rattle.office_machine.specs.Replies.{OfContract}
+use Rattle.office_plans.proofs.Names.{◌≡◌, ℕ, OfContract}
 
 pub told_alike : (contract left left' release release' t t' : ℕ) → left ≡ left' → release ≡ release' → t ≡ t'
     → OfContract contract left release t ≡ OfContract contract left' release' t'

@@ -1,9 +1,5 @@
 -- Numbers that are tested one after another are those from 1 on.
-use Rattle.std.specs.Prelude.{◌≡◌, ℕ, zero, suc, ◌+◌, ◌&&◌, Bool, true, nat_eq, List, [], ◌∷◌, length}
-use Rattle.std.proofs.Common.{refl, ap, ap₂, arith}
-use Rattle.std.proofs.lemmas.Bool.{and_parts}
-use Rattle.std.proofs.lemmas.Bool.Decides.{nat_tests}
-use Rattle.office_machine.specs.Fates.{numbers}
+use Rattle.office_plans.proofs.Names.{◌≡◌, ℕ, zero, suc, ◌+◌, ◌&&◌, Bool, true, nat_eq, List, [], ◌∷◌, length, refl, ap, ap₂, arith, and_parts, nat_tests, numbers}
 
 -- each number is one more than the one before it, from this one on
 abbrev pub are_from : ℕ → List ℕ → Bool

@@ -1,18 +1,6 @@
 -- The rule of a submission depends only on the caller's own tenders of the lot.
-use Rattle.std.specs.Prelude.{◌≡◌, ℕ, Bool, true, false, cond, ◌&&◌, ◌||◌, List, [], ◌∷◌, filter, Option}
-use Rattle.std.specs.List.{list_any}
-use Rattle.std.proofs.Common.{refl, sym, ap, ◌∙◌}
-use Rattle.std.proofs.lemmas.Bool.{and_parts, both_ways, false_from_ne_true}
-use Rattle.office_values.specs.Ids.{same_id}
-use Rattle.office_commands.specs.declared.command.Caller.{Caller}
-use Rattle.office_commands.specs.declared.command.Caller.TheVariants.{Public, Clerk, Tenderer}
-use Rattle.office_commands.specs.declared.tender.NamedSecurity.{NamedSecurity}
-use Rattle.office_base.specs.States.{is_sealed}
-use Rattle.office_base.specs.Tables.{Tables, envelopes_of_lot}
-use Rattle.office_base.specs.declared.records.EnvelopeRow.{EnvelopeRow}
-use Rattle.office_base.proofs.ExactKeys.{equal_ids, same_itself}
-use Rattle.tender_core.specs.Rules.Present.{is_sealed_by, present_rows, present_tests}
-use Rattle.office_plans.specs.OwnTenders.{own_envelopes, own_rows}
+use Rattle.office_plans.proofs.Names.{◌≡◌, ℕ, Bool, true, false, cond, ◌&&◌, ◌||◌, List, [], ◌∷◌, filter, Option, list_any, refl, sym, ap, ◌∙◌, and_parts, both_ways, false_from_ne_true, same_id, Caller, Public, Clerk, NamedSecurity, is_sealed, Tables, envelopes_of_lot, EnvelopeRow, equal_ids, same_itself, is_sealed_by, present_rows, present_tests, own_envelopes, own_rows}
+use Rattle.office_commands.specs.declared.command.Caller.TheVariants.{Tenderer}
 
 and_false : (b : Bool) → (b && false) ≡ false
 and_false true = refl

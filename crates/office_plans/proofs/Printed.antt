@@ -1,22 +1,6 @@
 -- The text of an object is the text that the writer wrote.
-use Rattle.std.proofs.Common.{◌≡◌, true, List, [], ◌∷◌, ◌++◌, map, append_assoc, append-nil, refl, sym, ap, ◌∙◌}
-use Rattle.std.proofs.lemmas.Bool.{and_parts}
-use Rattle.std.proofs.lemmas.Grind.{flat_map-append}
-use Rattle.std.proofs.lemmas.List.{flat_map_more, map-append}
-use Rattle.std.proofs.lemmas.Simd.{map-map}
-use Rattle.std.specs.Cmp.Lexicographic.{slice_cmp}
-use Rattle.std.specs.List.{AllByRecursion, flat_map, list_all}
-use Rattle.std.specs.Ordering.{is_gt, match_ordering, nat_cmp}
-use Rattle.std.specs.declared.cmp.Ordering.{Ordering}
-use Rattle.std.specs.declared.cmp.Ordering.TheVariants.{Less, Equal, Greater}
-use Rattle.json.specs.Print.{print}
+use Rattle.office_plans.proofs.Names.{◌≡◌, true, List, [], ◌∷◌, ◌++◌, map, append_assoc, append-nil, refl, sym, ap, ◌∙◌, and_parts, flat_map-append, flat_map_more, map-append, map-map, slice_cmp, AllByRecursion, flat_map, list_all, is_gt, match_ordering, nat_cmp, Ordering, Less, Equal, Greater, print, items_tokens, members_tokens, Data, array, Members, no_members, member, put, items_of, compact_text, items_outline, members_outline, print-outline, Member, json_object, member_tokens, names_rise, value_tokens, with_members}
 use Rattle.json.specs.Token as token
-use Rattle.json.specs.Tree.{items_tokens, members_tokens}
-use Rattle.serde_json.specs.Data.{Data, array, Members, no_members, member, put}
-use Rattle.serde_json.specs.View.{items_of}
-use Rattle.serde_json.specs.Written.{compact_text, items_outline, members_outline}
-use Rattle.serde_json.proofs.Texts.{print-outline}
-use Rattle.office_plans.specs.Json.{Member, json_object, member_tokens, names_rise, value_tokens, with_members}
 
 -- The members in the order in which they are written.
 abbrev members_of : List Member → Members

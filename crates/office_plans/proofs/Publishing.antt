@@ -1,21 +1,5 @@
 -- A command that is decided on rows that were looked up. The decision is the specification's, and the look-ups leave the store as it was.
-use Rattle.std.specs.Prelude.{◌≡◌, ℕ, Bool, true, false, not, ◌||◌, cond, List, Option, Some, Err, max}
-use Rattle.std.proofs.Common.{◌∙◌, ap, inl, refl, sym}
-use Rattle.office_values.specs.declared.refusal.Refusal.{Refusal}
-use Rattle.office_values.specs.declared.refusal.Refusal.TheVariants.{Forbidden}
-use Rattle.office_values.specs.declared.settings.Publisher.{Publisher}
-use Rattle.office_commands.specs.declared.commands.Command.{Command}
-use Rattle.office_base.specs.Rules.{first_of}
-use Rattle.office_base.specs.Shelves.{Looks, LooksFollow, Meaning}
-use Rattle.office_base.specs.Tables.{Tables}
-use Rattle.office_base.specs.declared.puts.Put.{Put}
-use Rattle.office_base.specs.declared.records.ClockRow.{ClockRow}
-use Rattle.office_machine.specs.Lacking.{is_lacking}
-use Rattle.office_machine.specs.Machine.{Given, command_tests, effect, may_give, refusal_of, time_of}
-use Rattle.office_machine.specs.OfficeMeans.{office_readings}
-use Rattle.office_plans.specs.Asking.{given_by}
-use Rattle.office_plans.specs.Published.{IsPlanned}
-use Rattle.tender_core.specs.declared.asking.Asking.{Asking}
+use Rattle.office_plans.proofs.Names.{◌≡◌, ℕ, Bool, true, false, not, ◌||◌, cond, List, Option, Some, Err, max, ◌∙◌, ap, inl, refl, sym, Refusal, Forbidden, Publisher, Command, first_of, Looks, LooksFollow, Meaning, Tables, Put, ClockRow, is_lacking, Given, command_tests, effect, may_give, refusal_of, time_of, office_readings, given_by, IsPlanned, Asking}
 
 -- A command that its caller may give is refused exactly as its own tests say.
 refused_by : (x : Given) → may_give x.caller x.command ≡ true → refusal_of x ≡ first_of (command_tests x)

@@ -1,15 +1,5 @@
 -- The tenders that an opening reads.
-use Rattle.std.specs.Prelude.{◌≡◌, ℕ, Bool, false, ◌||◌, List, [], ◌∷◌, ◌++◌, map}
-use Rattle.std.specs.List.{list_any}
-use Rattle.std.proofs.Common.{refl, sym, ap, ◌∙◌}
-use Rattle.std.proofs.lemmas.List.{append_assoc}
-use Rattle.office_base.specs.Tables.{Tables}
-use Rattle.office_base.specs.declared.records.EnvelopeRow.{EnvelopeRow}
-use Rattle.tender_core.specs.Rules.Open.{with_reading}
-use Rattle.tender_core.specs.declared.opening.OpenedTender.{OpenedTender}
-use Rattle.office_machine.specs.Rule.{sealed_of_notice, sealed_tender, sealed_tenders}
-use Rattle.office_machine.specs.OfficeMeans.{office_readings}
-use Rattle.office_plans.specs.Opening.{tender_read, tenders_read}
+use Rattle.office_plans.proofs.Names.{◌≡◌, ℕ, Bool, false, ◌||◌, List, [], ◌∷◌, ◌++◌, map, list_any, refl, sym, ap, ◌∙◌, append_assoc, Tables, EnvelopeRow, with_reading, OpenedTender, sealed_of_notice, sealed_tender, sealed_tenders, office_readings, tender_read, tenders_read}
 
 each_read : (s : Tables) (es : List EnvelopeRow) → map (tender_read s) es ≡ map (with_reading office_readings.read) (map (sealed_tender s) es)
 each_read s [] = refl

@@ -1,29 +1,5 @@
 -- A release that a command publishes and the merge that it joins, added to the command's changes.
-use Rattle.std.specs.Prelude.{◌≡◌, ℕ, ◌+◌, ◌-◌, true, false, List, ◌∷◌, [], ◌++◌, Option, Some, None, Result, Ok, Err, IfOk, IfErr}
-use Rattle.std.proofs.Common.{sym, ◌∙◌, ap, subst, inr, arith}
-use Rattle.std.proofs.lemmas.List.{append_assoc}
-use Rattle.ocds_release.specs.Texts.{ocid_text}
-use Rattle.office_values.specs.declared.refusal.Refusal.{Refusal}
-use Rattle.office_values.specs.declared.refusal.Refusal.TheVariants.{Unavailable}
-use Rattle.office_values.specs.declared.settings.Publisher.{Publisher}
-use Rattle.office_base.specs.Tables.{notice_at}
-use Rattle.office_base.specs.declared.puts.Put.{Put}
-use Rattle.office_base.specs.declared.puts.Put.TheVariants.{Release, Compiled}
-use Rattle.office_base.specs.declared.records.ReleaseRow.{ReleaseRow}
-use Rattle.office_machine.specs.Counted.{releases_in}
-use Rattle.office_commands.specs.Commands.{IsCommand}
-use Rattle.office_machine.specs.Lacking.{is_lacking}
-use Rattle.office_machine.specs.Machine.{Given, effect, publication, publication_puts, puts_of, refusal_of}
-use Rattle.office_machine.specs.OfficeMeans.{office_readings}
-use Rattle.office_publications.specs.Keeping.{CanBeFollowed, FollowsReleases, KeepsItsReleases, ReadsBack, has_last_release, has_release, kept_puts, merge_puts, merged_row}
-use Rattle.office_publications.specs.Merges.{AreSoMany, HasMerge}
-use Rattle.office_publications.specs.Publishing.{publishing}
-use Rattle.office_publications.specs.declared.publication.Publication.{Publication}
-use Rattle.office_plans.specs.Plans.{Plan}
-use Rattle.office_plans.specs.Published.{IsPlanned, accepted_reply}
-use Rattle.office_plans.specs.Released.{IsKept, IsReleased, as_row}
-use Rattle.office_plans.specs.Replies.{reply_text}
-use Rattle.office_plans.specs.declared.published.Released.{Released}
+use Rattle.office_plans.proofs.Names.{◌≡◌, ℕ, ◌+◌, ◌-◌, true, false, List, ◌∷◌, [], ◌++◌, Option, Some, None, Result, Ok, Err, IfOk, IfErr, sym, ◌∙◌, ap, subst, inr, arith, append_assoc, ocid_text, Refusal, Unavailable, Publisher, notice_at, Put, Release, Compiled, ReleaseRow, releases_in, IsCommand, is_lacking, Given, effect, publication, publication_puts, puts_of, refusal_of, office_readings, CanBeFollowed, FollowsReleases, KeepsItsReleases, ReadsBack, has_last_release, has_release, kept_puts, merge_puts, merged_row, AreSoMany, HasMerge, publishing, Publication, Plan, IsPlanned, accepted_reply, IsKept, IsReleased, as_row, reply_text, Released}
 
 before_next : (seq n : ℕ) → seq ≡ n + 1 → seq - 1 ≡ n
 before_next seq n next = omega (arith, next)

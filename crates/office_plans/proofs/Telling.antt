@@ -1,20 +1,6 @@
 -- A refused command gets its refusal, unless a look-up failed.
-use Rattle.std.specs.Prelude.{◌≡◌, ◌<◌, ◌⊎◌, ◌+◌, ◌-◌, ◌^◌, ℕ, Bool, true, List, Option, Some, None, Result, Ok, Err, max, min}
-use Rattle.std.proofs.Common.{◌∙◌, ap, arith, inl, inr, sym}
-use Rattle.office_values.specs.declared.refusal.Refusal.{Refusal}
-use Rattle.office_commands.specs.Commands.{kind_of}
-use Rattle.office_commands.specs.declared.commands.Command.{Command}
-use Rattle.office_base.specs.Faults.{HasRisen, count_after, one_fault_more}
-use Rattle.office_base.specs.Rules.{first_of}
-use Rattle.office_base.specs.Shelves.{CountsFaults, Looks, Meaning}
-use Rattle.office_base.specs.Tables.{Tables}
-use Rattle.office_base.specs.declared.records.ClockRow.{ClockRow}
-use Rattle.office_base.specs.declared.shelf.ShelfFault.{ShelfFault}
-use Rattle.office_machine.specs.Machine.{may_give, refusal_of}
+use Rattle.office_plans.proofs.Names.{◌≡◌, ◌<◌, ◌⊎◌, ◌+◌, ◌-◌, ◌^◌, ℕ, Bool, true, List, Option, Some, None, Result, Ok, Err, max, min, ◌∙◌, ap, arith, inl, inr, sym, Refusal, kind_of, Command, HasRisen, count_after, one_fault_more, first_of, CountsFaults, Looks, Meaning, Tables, ClockRow, ShelfFault, may_give, refusal_of, given_by, TellsRefusal, Asking}
 use Rattle.office_plans.proofs.Publishing.{IsTested, refused_on}
-use Rattle.office_plans.specs.Asking.{given_by}
-use Rattle.office_plans.specs.Published.{TellsRefusal}
-use Rattle.tender_core.specs.declared.asking.Asking.{Asking}
 
 -- The count after one more fault is higher, or it was already the highest.
 has_risen : (old new : ℕ) → new ≡ one_fault_more old → HasRisen old new

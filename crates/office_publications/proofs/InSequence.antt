@@ -1,28 +1,6 @@
 -- Each release of a notice is at the place in the sequence that its number says.
-use Rattle.std.specs.Prelude.{◌≡◌, ◌≤◌, ◌<◌, ◌&&◌, ◌||◌, zero, suc, nat_eq, nat_le, slice_get}
-use Rattle.std.proofs.Common.{ℕ, ◌+◌, Bool, true, false, cond, List, [], ◌∷◌, map, length, filter, Option, Some, None, is_some, refl, sym, ap, ◌∙◌, arith}
-use Rattle.std.proofs.lemmas.Bool.Decides.{nat_tests}
-use Rattle.std.proofs.lemmas.Option.{slice_get_past}
-use Rattle.std.specs.Cmp.{nat_cmp_is}
-use Rattle.std.specs.List.{AllByRecursion}
-use Rattle.std.specs.Ordering.{nat_cmp, ordering_then}
-use Rattle.std.specs.declared.cmp.Ordering.TheVariants.{Equal, Greater}
-use Rattle.office_values.specs.Ids.{id_cmp, same_id}
-use Rattle.office_base.specs.Limits.{release_limit}
-use Rattle.office_base.specs.Rows.{by_order, row_at, StartsAbove, IsInOrder}
-use Rattle.office_base.specs.Tables.{Tables, IsSorted, notice_at, release_at, release_cmp, release_key, release_numbers, releases_of_notice}
-use Rattle.office_base.specs.declared.records.ReleaseRow.{ReleaseRow}
-use Rattle.office_base.proofs.ExactKeys.{equal_ids, same_itself}
-use Rattle.office_base.proofs.Orders.{same_key}
-use Rattle.office_base.proofs.RowLaws.Keyed.{found_key}
-use Rattle.office_base.proofs.RowLaws.Filters.{if_passes, in_order-filter, row_at-filter}
-use Rattle.office_machine.specs.Counted.{releases_in}
-use Rattle.office_machine.specs.Fates.{numbers}
-use Rattle.office_machine.specs.Releases.{AreNumbered}
+use Rattle.office_publications.proofs.Names.{◌≡◌, ◌≤◌, ◌<◌, ◌&&◌, ◌||◌, zero, suc, nat_eq, nat_le, slice_get, ℕ, ◌+◌, Bool, true, false, cond, List, [], ◌∷◌, map, length, filter, Option, Some, None, is_some, refl, sym, ap, ◌∙◌, arith, nat_tests, slice_get_past, nat_cmp_is, AllByRecursion, nat_cmp, ordering_then, Equal, Greater, id_cmp, same_id, release_limit, by_order, row_at, StartsAbove, IsInOrder, Tables, IsSorted, notice_at, release_at, release_cmp, release_key, release_numbers, releases_of_notice, ReleaseRow, equal_ids, same_itself, same_key, found_key, if_passes, in_order-filter, row_at-filter, releases_in, numbers, AreNumbered, FindsAll, keys_are, has_last_release, has_release, AreInSequence}
 use Rattle.office_machine.proofs.Rows.Keyed as keyed
-use Rattle.office_machine.proofs.Rows.Numbered.{FindsAll, keys_are}
-use Rattle.office_publications.specs.Keeping.{has_last_release, has_release}
-use Rattle.office_publications.specs.Told.{AreInSequence}
 
 abbrev seq_of : ReleaseRow → ℕ
 seq_of r = r.seq

@@ -1,20 +1,6 @@
 -- The changes of an accepted command, by the release that it publishes.
-use Rattle.std.specs.Prelude.{◌≡◌, ℕ, List, [], ◌∷◌, ◌++◌, Option, Some, None, option_map, option_and_then}
-use Rattle.std.proofs.Common.{refl, sym, ◌∙◌, ap}
-use Rattle.std.proofs.lemmas.List.{append-nil, append_assoc}
-use Rattle.office_values.specs.declared.settings.Publisher.{Publisher}
-use Rattle.office_base.specs.declared.puts.Put.{Put}
+use Rattle.office_publications.proofs.Names.{◌≡◌, ℕ, List, [], ◌∷◌, ◌++◌, Option, Some, None, option_map, option_and_then, refl, sym, ◌∙◌, ap, append-nil, append_assoc, Publisher, Put, ReleaseRow, Tables, after_puts, Given, Means, effect, publication, publication_puts, puts_of, release_row, next, with_merges, office_readings, published_for, after-append, Event, event_of, kept_puts, next_with_merges, merge_puts, merged_row, NoEventPublishesNothing, EventsAreReleased, NoEventPutsItsEffect, EventsPutReleases, MergesStandBeside, publishing, text_by}
 use Rattle.office_base.specs.declared.puts.Put.TheVariants as puts
-use Rattle.office_base.specs.declared.records.ReleaseRow.{ReleaseRow}
-use Rattle.office_base.specs.Tables.{Tables, after_puts}
-use Rattle.office_machine.specs.Machine.{Given, Means, effect, publication, publication_puts, puts_of, release_row, next, with_merges}
-use Rattle.office_machine.specs.OfficeMeans.{office_readings}
-use Rattle.office_machine.specs.Publications.{published_for}
-use Rattle.office_machine.proofs.Accounts.Aside.{after-append}
-use Rattle.ocds_release.specs.declared.event.Event.{Event}
-use Rattle.office_publications.specs.Events.{event_of}
-use Rattle.office_publications.specs.Keeping.{kept_puts, next_with_merges, merge_puts, merged_row, NoEventPublishesNothing, EventsAreReleased, NoEventPutsItsEffect, EventsPutReleases, MergesStandBeside}
-use Rattle.office_publications.specs.Publishing.{publishing, text_by}
 
 module _ (publisher : Publisher) (x : Given) where
   abbrev means : Means

@@ -1,29 +1,6 @@
 -- Releases and merges are right after an accepted command if they were right before it.
-use Rattle.std.specs.Prelude.{◌≡◌, ℕ, Bool, true, false, cond, List, [], ◌∷◌, ◌++◌, map, filter, Option, Some, None, IsSome, option_to_list, All}
-use Rattle.std.proofs.Common.{refl, sym, ◌∙◌, ap, subst, inl, inr}
-use Rattle.std.proofs.lemmas.List.{append-nil}
-use Rattle.std.proofs.lemmas.List.Elements.{All-append, All-nil, All-cons}
-use Rattle.ocds_merge.specs.Stored.{KeepsMerge}
-use Rattle.office_values.specs.Ids.{same_id}
-use Rattle.office_values.specs.declared.settings.Publisher.{Publisher}
-use Rattle.office_base.specs.Rows.{row_at}
-use Rattle.office_base.specs.Tables.{Tables, ChangesKeepOrder, after_puts, find_compiled, notice_at, put_compiled, release_at, releases_of_notice}
-use Rattle.office_base.specs.declared.records.CompiledRow.{CompiledRow}
-use Rattle.office_base.specs.declared.records.ReleaseRow.{ReleaseRow}
-use Rattle.office_machine.specs.Accounts.{TablesAreInOrder}
-use Rattle.office_machine.specs.Machine.{AreOfNotices, Given, Means, effect, next, publication, publication_puts, puts_of}
-use Rattle.office_machine.specs.OfficeMeans.{office_readings}
-use Rattle.office_machine.specs.Parents.{HaveParents, ParentsAreThere}
-use Rattle.office_machine.specs.Releases.{ReleasesArePublished, published_of}
-use Rattle.office_machine.specs.Requests.{StepsReach}
-use Rattle.office_machine.proofs.Accounts.Aside.{after-append}
-use Rattle.office_machine.proofs.Releases.NextIs.{next_is}
-use Rattle.office_machine.proofs.Parents.ParentsThere.{parents_there}
-use Rattle.office_machine.proofs.Rows.Keyed.{found, found_put}
+use Rattle.office_publications.proofs.Names.{◌≡◌, ℕ, Bool, true, false, cond, List, [], ◌∷◌, ◌++◌, map, filter, Option, Some, None, IsSome, option_to_list, All, refl, sym, ◌∙◌, ap, subst, inl, inr, append-nil, All-append, All-nil, All-cons, KeepsMerge, same_id, Publisher, row_at, Tables, ChangesKeepOrder, after_puts, find_compiled, notice_at, put_compiled, release_at, releases_of_notice, CompiledRow, ReleaseRow, TablesAreInOrder, AreOfNotices, Given, Means, effect, next, publication, publication_puts, puts_of, office_readings, HaveParents, ParentsAreThere, ReleasesArePublished, published_of, StepsReach, after-append, next_is, parents_there, found, found_put, KeepsReleases, PublicationReadsBack, kept_puts, next_with_merges, merge_puts, merged_row, KeptStepsReach, ReleasesStayKept, NothingIsKeptAtFirst, AreMerged, CanBeMerged, body_in, publishing}
 use Rattle.office_machine.proofs.Rows.Keyed as keyed
-use Rattle.office_publications.specs.Keeping.{KeepsReleases, PublicationReadsBack, kept_puts, next_with_merges, merge_puts, merged_row, KeptStepsReach, ReleasesStayKept, NothingIsKeptAtFirst}
-use Rattle.office_publications.specs.Merges.{AreMerged, CanBeMerged, body_in}
-use Rattle.office_publications.specs.Publishing.{publishing}
 use Rattle.office_publications.proofs.KeptPuts.{merges_stand_beside}
 use Rattle.office_publications.proofs.MergesKept.{merges_stay}
 

@@ -1,3 +1,4 @@
+pub mod Names
 pub mod ReadAgain
 pub mod TextsApart
 pub mod WrittenAlike

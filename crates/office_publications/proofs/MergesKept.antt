@@ -1,17 +1,5 @@
 -- Stored merges are still those of their notices' releases after a release is published.
-use Rattle.std.specs.Prelude.{◌≡◌, ℕ, Bool, true, false, cond, List, [], ◌∷◌, ◌++◌, map, Some}
-use Rattle.std.proofs.Common.{refl, sym, ◌∙◌, ap, subst}
-use Rattle.std.proofs.lemmas.List.{map-append}
-use Rattle.std.specs.Ordering.{eq_by_cmp}
-use Rattle.std.specs.Cmp.Lexicographic.{nat_list_cmp_total}
-use Rattle.ocds_merge.specs.Stored.{KeepsMerge}
-use Rattle.office_values.specs.Ids.{id_cmp, same_id}
-use Rattle.office_base.specs.Tables.{Tables, compiled_at, compiled_key, find_compiled, releases_of_notice}
-use Rattle.office_base.specs.declared.records.CompiledRow.{CompiledRow}
-use Rattle.office_base.specs.declared.records.ReleaseRow.{ReleaseRow}
-use Rattle.office_base.proofs.ExactKeys.{ids_exact, equal_keys, same_itself, same_id_is}
-use Rattle.office_base.proofs.RowLaws.{row_at-row_put}
-use Rattle.office_publications.specs.Merges.{AreMerged, IsPublished, MergesStay, bodies, body_in}
+use Rattle.office_publications.proofs.Names.{◌≡◌, ℕ, Bool, true, false, cond, List, [], ◌∷◌, ◌++◌, map, Some, refl, sym, ◌∙◌, ap, subst, map-append, eq_by_cmp, nat_list_cmp_total, KeepsMerge, id_cmp, same_id, Tables, compiled_at, compiled_key, find_compiled, releases_of_notice, CompiledRow, ReleaseRow, ids_exact, equal_keys, same_itself, same_id_is, row_at-row_put, AreMerged, IsPublished, MergesStay, bodies, body_in}
 
 ends : {X : Type 0} (ys : List X) → ys ++ [] ≡ ys
 ends [] = refl

@@ -1,18 +1,7 @@
 -- Releases and packages don't depend on the merges that are stored beside the office.
-use Rattle.std.proofs.Common.{◌≡◌, ℕ, List, refl, ◌∙◌, ap}
-use Rattle.office_commands.specs.declared.command.Caller.{Caller}
-use Rattle.office_commands.specs.declared.commands.Command.{Command}
+use Rattle.office_publications.proofs.Names.{◌≡◌, ℕ, List, refl, ◌∙◌, ap, Caller, Command, Publisher, CompiledRow, Tables, Given, with_merges, LooksReadNoMerges, NextReadsNoMerges, beside, MergesStandBeside, next_with_merges, KeptStepsReadNoMerges, PackagesTellNoMerges, PublishedLooksReadNoMerges, ReleasesTellNoMerges, packages, publishing, release_text}
 use Rattle.office_commands.specs.declared.commands.Command.TheVariants.{Publish}
 use Rattle.office_commands.specs.declared.queries.Query.TheVariants as queries
-use Rattle.office_values.specs.declared.settings.Publisher.{Publisher}
-use Rattle.office_base.specs.declared.records.CompiledRow.{CompiledRow}
-use Rattle.office_base.specs.Tables.{Tables}
-use Rattle.office_machine.specs.Machine.{Given, with_merges}
-use Rattle.office_machine.specs.MergesApart.{LooksReadNoMerges, NextReadsNoMerges, beside}
-use Rattle.office_publications.specs.Keeping.{MergesStandBeside, next_with_merges}
-use Rattle.office_publications.specs.MergesApart.{KeptStepsReadNoMerges, PackagesTellNoMerges, PublishedLooksReadNoMerges, ReleasesTellNoMerges}
-use Rattle.office_publications.specs.Packages.{packages}
-use Rattle.office_publications.specs.Publishing.{publishing, release_text}
 
 module _ (publisher : Publisher) (merges : List CompiledRow) (s : Tables) (moment : ℕ) (caller : Caller) where
   abbrev given : Command → Given

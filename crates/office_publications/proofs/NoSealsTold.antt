@@ -1,33 +1,7 @@
 -- Events and packages depend on no digest of an envelope and on no seal.
-use Rattle.std.specs.Prelude.{◌≡◌, ℕ, ◌+◌, Bool, true, false, cond, ◌&&◌, ◌||◌, List, [], ◌∷◌, map, filter, Option, Some, None, unwrap_or, option_map, option_and_then}
-use Rattle.std.specs.List.{list_any}
-use Rattle.std.proofs.Common.{refl, sym, ◌∙◌, ap}
-use Rattle.serde_json.specs.Written.{compact_text}
-use Rattle.office_values.specs.Ids.{same_id}
-use Rattle.office_values.specs.declared.settings.Publisher.{Publisher}
-use Rattle.office_commands.specs.declared.commands.Command.{Command}
-use Rattle.office_commands.specs.declared.commands.Command.TheVariants.{Open, Award}
+use Rattle.office_publications.proofs.Names.{◌≡◌, ℕ, ◌+◌, Bool, true, false, cond, ◌&&◌, ◌||◌, List, [], ◌∷◌, map, filter, Option, Some, None, unwrap_or, option_map, option_and_then, list_any, refl, sym, ◌∙◌, ap, compact_text, same_id, Publisher, Command, Open, Award, EnvelopeRow, NoticeRow, SealRow, TendererRow, Tables, notice_at, envelopes_of_lot, is_sealed_envelope, is_admissible, price_of, lesser, lowest_price, is_better, better, best_with, weight_in, winner, release_of_event, tenderer_shown, Event, Given, time_of, published_for, releases_in, ButDigest, Pairs, award_event, event_of, open_event, ReleasesTellNoSeals, PackagesTellNoSeals}
 use Rattle.office_commands.specs.declared.queries.Query.TheVariants as queries
-use Rattle.office_base.specs.declared.records.EnvelopeRow.{EnvelopeRow}
-use Rattle.office_base.specs.declared.records.NoticeRow.{NoticeRow}
-use Rattle.office_base.specs.declared.records.SealRow.{SealRow}
-use Rattle.office_base.specs.declared.records.TendererRow.{TendererRow}
-use Rattle.office_base.specs.Tables.{Tables, notice_at, envelopes_of_lot}
-use Rattle.tender_core.specs.Rules.Open.{is_sealed_envelope}
-use Rattle.award_core.specs.Rules.Award.{is_admissible, price_of, lesser, lowest_price, is_better, better, best_with, weight_in, winner}
-use Rattle.ocds_release.specs.Events.{release_of_event}
-use Rattle.ocds_release.specs.Tenderers.{tenderer_shown}
-use Rattle.ocds_release.specs.declared.event.Event.{Event}
 use Rattle.ocds_release.specs.declared.event.Event.TheVariants as events
-use Rattle.office_machine.specs.Machine.{Given, time_of}
-use Rattle.office_machine.specs.Publications.{published_for}
-use Rattle.office_machine.specs.Counted.{releases_in}
-use Rattle.office_machine.specs.Seals.{ButDigest}
-use Rattle.office_machine.specs.Worlds.{Pairs}
-use Rattle.office_publications.specs.AwardEvents.{award_event}
-use Rattle.office_publications.specs.Events.{event_of}
-use Rattle.office_publications.specs.NoticeEvents.{open_event}
-use Rattle.office_publications.specs.Sealed.{ReleasesTellNoSeals, PackagesTellNoSeals}
 
 -- an envelope without its digest
 abbrev bare : EnvelopeRow → EnvelopeRow

@@ -1,15 +1,5 @@
 -- A stored release can be read again, and so can the merge that it joins.
-use Rattle.std.specs.Prelude.{◌≡◌, ℕ, List, [], ◌∷◌, ◌++◌, All, unwrap_or}
-use Rattle.std.proofs.Common.{sym, subst}
-use Rattle.std.proofs.lemmas.List.Elements.{All-append, All-cons, All-map, All-nil, All-weaker}
-use Rattle.serde_json.specs.Data.{Data, null}
-use Rattle.ocds_merge.specs.Compile.{body_of}
-use Rattle.ocds_merge.specs.Stored.{IsStorable, KeepsMerge}
-use Rattle.office_base.specs.Tables.{Tables, releases_of_notice}
-use Rattle.office_base.specs.declared.records.CompiledRow.{CompiledRow}
-use Rattle.office_base.specs.declared.records.ReleaseRow.{ReleaseRow}
-use Rattle.office_publications.specs.Keeping.{KeepsReleasesOf, ReadsBack, merged_row}
-use Rattle.office_publications.specs.Merges.{AreReleasesOf, CanBeMerged, IsMerge, IsMergedOf, bodies, body_in}
+use Rattle.office_publications.proofs.Names.{◌≡◌, ℕ, List, [], ◌∷◌, ◌++◌, All, unwrap_or, sym, subst, All-append, All-cons, All-map, All-nil, All-weaker, Data, null, body_of, IsStorable, KeepsMerge, Tables, releases_of_notice, CompiledRow, ReleaseRow, KeepsReleasesOf, ReadsBack, merged_row, AreReleasesOf, CanBeMerged, IsMerge, IsMergedOf, bodies, body_in}
 
 body_storable : (r : ReleaseRow) → CanBeMerged r → IsStorable (body_in r)
 body_storable r can = subst (λ o. IsStorable (body_of (unwrap_or o null))) (sym can.reads) can.storable

@@ -1,32 +1,5 @@
 -- The compiled release of a notice is the merge of its releases under a head, and has a text.
-use Rattle.std.specs.Prelude.{◌≡◌, ◌≤◌, ◌<◌, ℕ, Bool, true, false, cond, List, [], ◌∷◌, ◌++◌, map, length, unwrap_or, All, codes}
-use Rattle.std.proofs.Common.{refl, sym, ap, ◌∙◌, subst, arith}
-use Rattle.std.proofs.lemmas.Bool.{le-ltb}
-use Rattle.std.proofs.lemmas.List.Elements.{recursion_from_All}
-use Rattle.std.specs.List.{AllByRecursion}
-use Rattle.std.specs.Ordering.{nat_cmp, is_lt}
-use Rattle.std.specs.Cmp.Lexicographic.{slice_cmp}
-use Rattle.std.specs.declared.cmp.Ordering.TheVariants.{Equal, Greater}
-use Rattle.serde_json.specs.Data.{Data, null, boolean, number, string, array, object}
-use Rattle.ocds_merge.specs.Compile.{body_of, compiled_release, compiled_tag, date_of, last_date, with_head}
-use Rattle.ocds_merge.specs.Laws.{IsInDateOrder}
-use Rattle.ocds_merge.specs.Merge.{merge_or_null}
-use Rattle.ocds_merge.specs.Stored.{IsStorable}
-use Rattle.ocds_merge.proofs.KindLaw.{newest}
-use Rattle.ocds_release.specs.KeptReleases.{AreKept, HasText}
-use Rattle.ocds_release.specs.Opened.{moment_of_last}
-use Rattle.ocds_release.specs.Texts.{ocid_text}
-use Rattle.ocds_release.proofs.Flat.{AreMembersFlat, entries_flat, text_flat, texts_flat}
-use Rattle.ocds_release.proofs.PackageTexts.{kept_last}
-use Rattle.office_values.specs.Moments.{TextsKeepOrder, moment_text}
-use Rattle.office_values.specs.declared.settings.Publisher.{Publisher}
-use Rattle.office_base.specs.Tables.{Tables, releases_of_notice}
-use Rattle.office_base.specs.declared.records.ReleaseRow.{ReleaseRow}
-use Rattle.office_machine.specs.Releases.{MomentsNeverFall, ReleasesAreInTime}
-use Rattle.office_publications.specs.Merges.{bodies, body_in, data_in}
-use Rattle.office_publications.specs.Packages.{compiled_told}
-use Rattle.office_publications.specs.Standing.{IsReached}
-use Rattle.office_publications.specs.Told.{IsCompiled, IsInRange}
+use Rattle.office_publications.proofs.Names.{◌≡◌, ◌≤◌, ◌<◌, ℕ, Bool, true, false, cond, List, [], ◌∷◌, ◌++◌, map, length, unwrap_or, All, codes, refl, sym, ap, ◌∙◌, subst, arith, le-ltb, recursion_from_All, AllByRecursion, nat_cmp, is_lt, slice_cmp, Equal, Greater, Data, null, boolean, number, string, array, object, body_of, compiled_release, compiled_tag, date_of, last_date, with_head, IsInDateOrder, merge_or_null, IsStorable, newest, AreKept, HasText, moment_of_last, ocid_text, AreMembersFlat, entries_flat, text_flat, texts_flat, kept_last, TextsKeepOrder, moment_text, Publisher, Tables, releases_of_notice, ReleaseRow, MomentsNeverFall, ReleasesAreInTime, bodies, body_in, data_in, compiled_told, IsReached, IsCompiled, IsInRange}
 use Rattle.office_publications.proofs.ReadAgain.{bodies_storable}
 use Rattle.office_publications.proofs.WrittenAlike.{IsObject}
 

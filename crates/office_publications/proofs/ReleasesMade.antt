@@ -1,12 +1,5 @@
 -- Each command that publishes has a release.
-use Rattle.std.specs.Prelude.{Option, Some, None, option_map, IsSome}
-use Rattle.std.proofs.Common.{refl}
-use Rattle.office_commands.specs.declared.commands.Command.{Command}
-use Rattle.office_commands.specs.declared.commands.Command.TheVariants.{Fail, Sign, AmendContract, Pay, End}
-use Rattle.office_base.specs.Tables.{Tables, award_at, contract_at}
-use Rattle.office_machine.specs.Publications.{published_for}
-use Rattle.office_publications.specs.Events.{event_of}
-use Rattle.office_publications.specs.Publishing.{ReleasesAreMade, text_by}
+use Rattle.office_publications.proofs.Names.{Option, Some, None, option_map, IsSome, refl, Command, Fail, Sign, AmendContract, Pay, End, Tables, award_at, contract_at, published_for, event_of, ReleasesAreMade, text_by}
 
 same_there : {X Y Z : Type 0} (f : X → Y) (g : X → Z) (o : Option X) → IsSome (option_map f o) → IsSome (option_map g o)
 same_there f g None h = h

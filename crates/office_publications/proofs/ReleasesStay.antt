@@ -1,14 +1,5 @@
 -- Releases that can be merged, and their bodies.
-use Rattle.std.specs.Prelude.{Bool, true, false, cond, [], ◌∷◌, All, unwrap_or}
-use Rattle.std.proofs.Common.{sym, ap, subst}
-use Rattle.std.proofs.lemmas.List.Elements.{All-append, All-from_recursion, All-map, All-weaker}
-use Rattle.serde_json.specs.Data.{null}
-use Rattle.ocds_merge.specs.Compile.{body_of}
-use Rattle.ocds_merge.specs.Stored.{IsStorable}
-use Rattle.office_values.specs.Ids.{same_id}
-use Rattle.office_base.specs.Tables.{releases_of_notice}
-use Rattle.office_base.specs.declared.records.ReleaseRow.{ReleaseRow}
-use Rattle.office_publications.specs.Merges.{CanBeMerged, body_in, ReleasesStay, BodiesAreStorable}
+use Rattle.office_publications.proofs.Names.{Bool, true, false, cond, [], ◌∷◌, All, unwrap_or, sym, ap, subst, All-append, All-from_recursion, All-map, All-weaker, null, body_of, IsStorable, same_id, releases_of_notice, ReleaseRow, CanBeMerged, body_in, ReleasesStay, BodiesAreStorable}
 
 one_more : (r : ReleaseRow) → CanBeMerged r → (b : Bool) → All CanBeMerged (cond b (r ∷ []) [])
 one_more r can true = All-from_recursion CanBeMerged (r ∷ []) (can, tt)

@@ -1,29 +1,6 @@
 -- The releases that the office shows for a notice are those that its rows store.
-use Rattle.std.specs.Prelude.{◌≡◌, ℕ, ◌+◌, Bool, true, false, cond, List, [], ◌∷◌, map, filter, Option, Some, None, option_map, option_and_then, option_to_list, unwrap_or, All}
-use Rattle.std.proofs.Common.{refl, sym, ap, ◌∙◌, subst}
-use Rattle.std.proofs.lemmas.List.Elements.{All-append, All-cons, All-nil, recursion_from_All}
-use Rattle.std.specs.List.{AllByRecursion}
-use Rattle.serde_json.specs.Data.{Data, null}
-use Rattle.serde_json.specs.Written.{compact_text}
-use Rattle.ocds_merge.specs.Compile.{date_of}
-use Rattle.ocds_merge.specs.Stored.{IsStorable}
-use Rattle.ocds_release.specs.Events.{release_of_event}
-use Rattle.ocds_release.specs.KeptReleases.{ReleaseIsKept, AreKept}
-use Rattle.ocds_release.specs.declared.event.Event.{Event}
+use Rattle.office_publications.proofs.Names.{◌≡◌, ℕ, ◌+◌, Bool, true, false, cond, List, [], ◌∷◌, map, filter, Option, Some, None, option_map, option_and_then, option_to_list, unwrap_or, All, refl, sym, ap, ◌∙◌, subst, All-append, All-cons, All-nil, recursion_from_All, AllByRecursion, Data, null, compact_text, date_of, IsStorable, release_of_event, ReleaseIsKept, AreKept, Event, same_id, moment_text, Publisher, Tables, releases_of_notice, ReleaseRow, Given, publication, release_row, published_for, releases_in, ReleasesArePublished, published_by, published_of, event_of, CanBeMerged, data_in, publishing, text_by, notice_published, IsReached}
 use Rattle.ocds_release.specs.declared.event.Event.TheVariants.{Publish}
-use Rattle.office_values.specs.Ids.{same_id}
-use Rattle.office_values.specs.Moments.{moment_text}
-use Rattle.office_values.specs.declared.settings.Publisher.{Publisher}
-use Rattle.office_base.specs.Tables.{Tables, releases_of_notice}
-use Rattle.office_base.specs.declared.records.ReleaseRow.{ReleaseRow}
-use Rattle.office_machine.specs.Machine.{Given, publication, release_row}
-use Rattle.office_machine.specs.Publications.{published_for}
-use Rattle.office_machine.specs.Counted.{releases_in}
-use Rattle.office_machine.specs.Releases.{ReleasesArePublished, published_by, published_of}
-use Rattle.office_publications.specs.Events.{event_of}
-use Rattle.office_publications.specs.Merges.{CanBeMerged, data_in}
-use Rattle.office_publications.specs.Publishing.{publishing, text_by, notice_published}
-use Rattle.office_publications.specs.Standing.{IsReached}
 use Rattle.office_publications.proofs.WrittenAlike.{IsObject, same_date, object_too}
 
 -- the row has the release of an event, with its moment

@@ -1,17 +1,6 @@
 -- A compact text without floats has exactly one outline.
-use Rattle.std.proofs.Common.{◌≡◌, ℕ, zero, suc, pos, negsuc, ◌+◌, ◌/◌, ◌%◌, ◌<◌, ◌==◌, List, [], ◌∷◌, ◌++◌, Bool, true, false, cond, Some, decimal, refl, sym, ap, ap₂, ◌∙◌, arith, append_assoc, append-nil}
-use Rattle.std.specs.Prelude.{◌&&◌, nat_lt}
-use Rattle.std.proofs.lemmas.Bool.{or_parts, and_from, lt-ltb}
-use Rattle.std.proofs.lemmas.List.{append_cancel_left}
-use Rattle.std.specs.Fmt.{digits, digits_onto, digit_glyph}
-use Rattle.json.specs.Text.{content, plain}
-use Rattle.json.specs.Token.{Token}
-use Rattle.json.specs.Print.{quoted, escape, token_text}
+use Rattle.office_publications.proofs.Names.{◌≡◌, ℕ, zero, suc, pos, negsuc, ◌+◌, ◌/◌, ◌%◌, ◌<◌, ◌==◌, List, [], ◌∷◌, ◌++◌, Bool, true, false, cond, Some, decimal, refl, sym, ap, ap₂, ◌∙◌, arith, append_assoc, append-nil, ◌&&◌, nat_lt, or_parts, and_from, lt-ltb, append_cancel_left, digits, digits_onto, digit_glyph, content, plain, Token, quoted, escape, token_text, content-escape, Num, unsigned, negative, float, Data, null, boolean, number, string, array, object, Items, no_items, item, Members, no_members, member, is_float, number_text, outline, items_outline, members_outline, has_float, items_have_float, members_have_float, comma_if, compact_text, items_text, members_text}
 use Rattle.json.specs.Json as json
-use Rattle.json.proofs.Printed.Strings.{content-escape}
-use Rattle.serde_json.specs.Data.{Num, unsigned, negative, float, Data, null, boolean, number, string, array, object, Items, no_items, item, Members, no_members, member}
-use Rattle.serde_json.specs.Find.{is_float}
-use Rattle.serde_json.specs.Written.{number_text, outline, items_outline, members_outline, has_float, items_have_float, members_have_float, comma_if, compact_text, items_text, members_text}
 
 -- ---- numbers
 

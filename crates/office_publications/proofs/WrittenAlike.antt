@@ -1,15 +1,6 @@
 -- Releases with equal texts have equal dates, and both are objects if one is.
-use Rattle.std.specs.Prelude.{◌≡◌, ℕ, List, [], codes, false, Option, Some, None, option_map, option_and_then, unwrap_or}
-use Rattle.std.proofs.Common.{refl, sym, ap, ◌∙◌, subst}
-use Rattle.std.specs.Ordering.{nat_cmp, match_ordering}
-use Rattle.std.specs.Cmp.Lexicographic.{slice_cmp}
-use Rattle.std.specs.declared.cmp.Ordering.{Ordering}
-use Rattle.std.specs.declared.cmp.Ordering.TheVariants.{Less, Equal, Greater}
+use Rattle.office_publications.proofs.Names.{◌≡◌, ℕ, List, [], codes, false, Option, Some, None, option_map, option_and_then, unwrap_or, refl, sym, ap, ◌∙◌, subst, nat_cmp, match_ordering, slice_cmp, Ordering, Less, Equal, Greater, Data, null, boolean, number, string, array, object, Members, no_members, member, get_member, as_str, compact_text, has_float, outline, members_outline, date_of}
 use Rattle.json.specs.Json as json
-use Rattle.serde_json.specs.Data.{Data, null, boolean, number, string, array, object, Members, no_members, member}
-use Rattle.serde_json.specs.Find.{get_member, as_str}
-use Rattle.serde_json.specs.Written.{compact_text, has_float, outline, members_outline}
-use Rattle.ocds_merge.specs.Compile.{date_of}
 use Rattle.office_publications.proofs.TextsApart.{same_outline}
 
 abbrev text_in : json.Json → Option (List ℕ)

@@ -1,12 +1,6 @@
 -- Rows that are taken and added up, one after another.
-use Rattle.std.proofs.Common.{Ok, Err, Result}
-use Rattle.std.specs.Prelude.{IfOk}
+use Rattle.office_store.proofs.Names.{Ok, Err, Result, IfOk, Held, SumsAnswer, Tables, ShelfFault, KeepsOffice}
 use Rattle.sqlite_trees.specs.declared.store.Store.{Ghosts}
-use Rattle.sqlite.specs.Held.{Held}
-use Rattle.office_base.specs.Shelves.{SumsAnswer}
-use Rattle.office_base.specs.Tables.{Tables}
-use Rattle.office_base.specs.declared.shelf.ShelfFault.{ShelfFault}
-use Rattle.office_store.specs.LedgerRows.{KeepsOffice}
 
 pub keeps_then : {S : Type 0} (g : Ghosts S) (a b c : Held S) → KeepsOffice g a b → KeepsOffice g b c → KeepsOffice g a c
 keeps_then g a b c first second n = record {

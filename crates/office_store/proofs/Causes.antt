@@ -1,20 +1,8 @@
 -- Why an office isn't entered.
-use Rattle.std.proofs.Common.{◌≡◌, ◌∙◌, ◌⊎◌, inl, inr, ℕ, ◌≤◌, List, [], true, false, refl, sym, subst, IsTrue, arith}
-use Rattle.sqlite_value.specs.Order.{Row}
+use Rattle.office_store.proofs.Names.{◌≡◌, ◌∙◌, ◌⊎◌, inl, inr, ℕ, ◌≤◌, List, [], true, false, refl, sym, subst, IsTrue, arith, Row, Database, Held, state, State, HasCleanDisk, Survives, edition_of, has_late, DiskFails, fault_of, IsAsked, IsRefusedBy, Refused, get_version, HasForms, ShelfFault, EntersOrCanNot, IsHindered, is_other_version, opening_of, version_in, OpenFault}
 use Rattle.sqlite_trees.specs.declared.store.Store.{Ghosts}
-use Rattle.sqlite.specs.Effect.{Database}
 use Rattle.sqlite.specs.declared.error.Error.{Error}
-use Rattle.sqlite.specs.Held.{Held, state}
-use Rattle.sqlite.specs.State.{State, HasCleanDisk, Survives}
-use Rattle.office_tables.specs.Editions.{edition_of, has_late}
-use Rattle.office_tables.specs.Failing.{DiskFails, fault_of}
-use Rattle.office_tables.specs.Steps.{IsAsked, IsRefusedBy, Refused}
-use Rattle.office_tables.specs.Version.{get_version}
-use Rattle.office_store.specs.Forms.{HasForms}
-use Rattle.office_base.specs.declared.shelf.ShelfFault.{ShelfFault}
 use Rattle.office_base.specs.declared.shelf.ShelfFault.TheVariants as shelf
-use Rattle.office_store.specs.Founding.{EntersOrCanNot, IsHindered, is_other_version, opening_of, version_in}
-use Rattle.office_store.specs.declared.found.OpenFault.{OpenFault}
 use Rattle.office_store.specs.declared.found.OpenFault.TheVariants as fault
 
 -- what hindered the opening did so before too, because the last commit is the same

@@ -1,20 +1,6 @@
 -- A table of the office that a database has is found by its form.
-use Rattle.std.proofs.Common.{◌≡◌, ◌⊎◌, inl, inr, ℕ, zero, suc, ◌+◌, ◌<◌, ◌==◌, Bool, Bor, true, false, cond, List, [], ◌∷◌, Option, Some, None, length, filter, map, slice_index_or, take, arith, refl, sym, ap, subst, ◌∙◌, true≢false}
-use Rattle.std.specs.Prelude.{is_some, ◌&&◌}
-use Rattle.std.proofs.lemmas.Bool.{cases_Bool, eqb-true, eq-eqb}
-use Rattle.sqlite_trees.specs.Tree.{IsAscending}
-use Rattle.sqlite_schema.specs.declared.schema.Schema.{Schema}
-use Rattle.sqlite_schema.specs.declared.schema.Table.{Table}
-use Rattle.sqlite_schema.specs.Names.{same_name}
-use Rattle.sqlite_rules.specs.Lists.{Has}
-use Rattle.sqlite_rules.proofs.ListLemmas.{all_has}
-use Rattle.sqlite_catalog.proofs.AlterLemmas.{place_has}
-use Rattle.sqlite_catalog.proofs.StepLemmas.{same_itself}
-use Rattle.sqlite.specs.Effect.{Database, IsDatabase}
-use Rattle.office_tables.specs.Known.{IsIn, at_tree, key_indexes}
-use Rattle.office_tables.specs.Schema.{OfficeTable, table_of}
-use Rattle.office_tables.specs.Schema.OfficeTable.{Lines, Batches, Tenderers, Notices, Lots, Envelopes, Seals, Securities, Awards, Contracts, Entries, Releases, Compiled, Office, LateRules, FormerNotices, Performances}
-use Rattle.office_store.specs.Forms.{HasForm, HasForms, HasPlainRules, StandsAlike, StandsOrLacks, index_count}
+use Rattle.office_store.proofs.Names.{◌≡◌, ◌⊎◌, inl, inr, ℕ, zero, suc, ◌+◌, ◌<◌, ◌==◌, Bool, Bor, true, false, cond, List, [], ◌∷◌, Option, Some, None, length, filter, map, slice_index_or, take, arith, refl, sym, ap, subst, ◌∙◌, true≢false, is_some, ◌&&◌, cases_Bool, eqb-true, eq-eqb, IsAscending, Schema, Table, same_name, Has, all_has, place_has, same_itself, Database, IsDatabase, IsIn, at_tree, key_indexes, OfficeTable, table_of, Lines, Batches, Tenderers, Notices, Lots, Envelopes, Seals, Securities, Awards, Contracts, Entries, Releases, Office, LateRules, FormerNotices, Performances, HasForm, HasForms, HasPlainRules, StandsAlike, StandsOrLacks, index_count}
+use Rattle.office_tables.specs.Schema.OfficeTable.{Compiled}
 
 -- ---- the one table at its tree
 

@@ -1,21 +1,5 @@
 -- A table that has its form is a table of the office.
-use Rattle.std.proofs.Common.{◌≡◌, ◌⊎◌, inl, inr, ℕ, zero, suc, ◌+◌, ◌<◌, ◌==◌, ◌^◌, true, false, List, [], ◌∷◌, Option, Some, None, length, filter, slice_get, nat_le, refl, sym, ap, subst, ◌∙◌, IsTrue, arith}
-use Rattle.std.proofs.lemmas.Bool.Decides.{nat_tests}
-use Rattle.std.proofs.lemmas.Bool.{eq-eqb}
-use Rattle.std.specs.Prelude.{is_some, ◌&&◌}
-use Rattle.sqlite_schema.specs.declared.schema.Schema.{Schema}
-use Rattle.sqlite_schema.specs.declared.schema.Table.{Table}
-use Rattle.sqlite_schema.specs.Rules.{guards}
-use Rattle.sqlite_rules.specs.Lists.{Has}
-use Rattle.sqlite_rules.proofs.ListLemmas.{all_has, has_kept}
-use Rattle.sqlite_catalog.specs.Listing.{IsGuarded, IsTableRow, automatic}
-use Rattle.sqlite_catalog.proofs.AlterLemmas.{place_has}
-use Rattle.sqlite_catalog.proofs.LayoutLemmas.{zipped_left}
-use Rattle.sqlite.specs.Effect.{Database, IsDatabase}
-use Rattle.office_tables.specs.Known.{IsIn, at_tree, key_indexes}
-use Rattle.office_tables.specs.Schema.{OfficeTable, table_of}
-use Rattle.office_tables.proofs.Each.{each}
-use Rattle.office_store.specs.Forms.{HasForms, StandsAlike, StandsOrLacks, index_count}
+use Rattle.office_store.proofs.Names.{◌≡◌, ◌⊎◌, inl, inr, ℕ, zero, suc, ◌+◌, ◌<◌, ◌==◌, ◌^◌, true, false, List, [], ◌∷◌, Option, Some, None, length, filter, slice_get, nat_le, refl, sym, ap, subst, ◌∙◌, IsTrue, arith, nat_tests, eq-eqb, is_some, ◌&&◌, Schema, Table, guards, Has, all_has, has_kept, IsGuarded, IsTableRow, automatic, place_has, zipped_left, Database, IsDatabase, IsIn, at_tree, key_indexes, OfficeTable, table_of, each, HasForms, StandsAlike, StandsOrLacks, index_count}
 
 -- ---- a list of one
 

@@ -1,27 +1,8 @@
 -- An office is made in a transaction, or entered.
-use Rattle.std.proofs.Common.{◌≡◌, inl, inr, Bool, true, false, List, [], Ok, Err, Result, refl, sym, ap, subst, ◌∙◌, IsTrue, true≢false}
-use Rattle.sqlite_tied.specs.Compute.{everything}
-use Rattle.sqlite_value.specs.Order.{Row}
-use Rattle.sqlite_trees.specs.Tree.{Trees}
-use Rattle.sqlite_trees.specs.declared.memory.MemStore.{MemStore}
+use Rattle.office_store.proofs.Names.{◌≡◌, inl, inr, Bool, true, false, List, [], Ok, Err, Result, refl, sym, ap, subst, ◌∙◌, IsTrue, true≢false, everything, Row, Trees, MemStore, Schema, CompileError, IsDatabase, Held, state, understood, listing_schema, State, Shows, Shown, IsLive, over_memory, IsEmpty, no_tables, Founds, KeepsOthers, Holds, IsAsked, Refused, ShowsTables, get_version, HasNoVersion, Origin, Founded, LeavesNew, LeavesOffice, IsSoundOpen, Enters, takes_a_name, LeavesShown}
 use Rattle.sqlite_trees.specs.declared.store.Store.{Ghosts}
-use Rattle.sqlite_schema.specs.declared.schema.Schema.{Schema}
 use Rattle.sqlite_resolve.specs.declared.compiled.Compiled.{Compiled}
-use Rattle.sqlite_resolve.specs.declared.error.CompileError.{CompileError}
-use Rattle.sqlite.specs.Effect.{IsDatabase}
-use Rattle.sqlite.specs.Held.{Held, state}
-use Rattle.sqlite.specs.Listing.{understood, listing_schema}
-use Rattle.sqlite.specs.State.{State, Shows, Shown, IsLive}
-use Rattle.sqlite.specs.Steps.{over_memory, IsEmpty}
-use Rattle.office_base.specs.Tables.{no_tables}
-use Rattle.office_tables.specs.Making.{Founds, KeepsOthers}
-use Rattle.office_tables.specs.Standing.{Holds}
-use Rattle.office_tables.specs.Steps.{IsAsked, Refused, ShowsTables}
-use Rattle.office_tables.specs.Version.{get_version, HasNoVersion}
-use Rattle.office_store.specs.declared.opened.Origin.{Origin}
 use Rattle.office_store.specs.declared.opened.Origin.TheVariants as from
-use Rattle.office_store.specs.Founding.{Founded, LeavesNew, LeavesOffice, IsSoundOpen, Enters, takes_a_name}
-use Rattle.office_store.specs.SqlMeaning.{LeavesShown}
 
 sound_now : (old : State) → (IsTrue old.is_open → old.now ≡ old.committed) → IsSoundOpen old → IsTrue old.is_open → IsDatabase old.now
 sound_now old settled sound o = subst IsDatabase (sym (settled o)) (sound o)

@@ -1,30 +1,7 @@
 -- A database that holds an office has the tables of the join.
-use Rattle.std.specs.Prelude.{map}
-use Rattle.std.proofs.Common.{◌≡◌, ℕ, true, List, [], ◌∷◌, refl, sym, subst}
-use Rattle.sqlite_value.specs.declared.value.Value.TheVariants.{Text}
-use Rattle.sqlite_value.specs.Order.{Row}
+use Rattle.office_store.proofs.Names.{map, ◌≡◌, ℕ, true, List, [], ◌∷◌, refl, sym, subst, Text, Row, Schema, Table, Database, Held, state, Tables, IsSorted, line_form, lot_form, contract_values, contract_read, entry_form, by_rowid, read_by_rowid, IsIn, at_tree, table_of, Holds, IsAsked, ShowsTables, Lines, Lots, Contracts, Entries, found_by_tree, joined_lots, list_joined_of_line, HoldsJoined, LotsAreShown, joined_lot_cells, StoredRowsShow}
 use Rattle.sqlite_trees.specs.declared.store.Store.{Ghosts}
-use Rattle.sqlite_schema.specs.declared.schema.Schema.{Schema}
-use Rattle.sqlite_schema.specs.declared.schema.Table.{Table}
-use Rattle.sqlite.specs.Effect.{Database}
-use Rattle.sqlite.specs.Held.{Held, state}
-use Rattle.office_base.specs.Tables.{Tables, IsSorted}
-use Rattle.office_tables.specs.Tables.Lines.{line_form}
-use Rattle.office_tables.specs.Tables.Lots.{lot_form}
-use Rattle.office_tables.specs.Tables.Contracts.{contract_values, contract_read}
-use Rattle.office_tables.specs.Tables.Entries.{entry_form}
-use Rattle.office_tables.specs.Kept.{by_rowid, read_by_rowid}
-use Rattle.office_tables.specs.Known.{IsIn, at_tree}
-use Rattle.office_tables.specs.Schema.{table_of}
-use Rattle.office_tables.specs.Standing.{Holds}
-use Rattle.office_tables.specs.Steps.{IsAsked, ShowsTables}
-use Rattle.office_tables.specs.Schema.OfficeTable.{Lines, Lots, Contracts, Entries}
-use Rattle.office_tables.proofs.Selecting.{found_by_tree}
-use Rattle.office_ledger.specs.Joins.{joined_lots}
 use Rattle.office_ledger.specs.Known.{Holds as HasTable}
-use Rattle.office_ledger.specs.SelectLots.{list_joined_of_line}
-use Rattle.office_ledger.specs.Shows.{HoldsJoined, LotsAreShown, joined_lot_cells}
-use Rattle.office_ledger.specs.Standing.{StoredRowsShow}
 
 known : (schema : Schema) (table : Table) (n : ℕ) → IsIn schema table n → HasTable schema table.name table.columns table.key n
 known schema table n it = record {

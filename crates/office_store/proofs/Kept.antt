@@ -1,9 +1,6 @@
 -- Statements that commit nothing.
-use Rattle.std.proofs.Common.{inl, inr, ℕ, List}
-use Rattle.sqlite_value.specs.Order.{Row}
-use Rattle.sqlite.specs.State.{State, IsUnchanged, IsRolledBack, IsNotRun}
+use Rattle.office_store.proofs.Names.{inl, inr, ℕ, List, Row, State, IsUnchanged, IsRolledBack, IsNotRun, Refused}
 use Rattle.sqlite.specs.declared.error.Error.{Error}
-use Rattle.office_tables.specs.Steps.{Refused}
 
 pub unchanged : (old new : State) → IsUnchanged old new → Refused old new
 unchanged old new same = record { was_open = λ _. same.0.was_open; committed = λ _. same.0.committed_is }

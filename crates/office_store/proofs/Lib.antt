@@ -1,3 +1,4 @@
+pub mod Names
 mod Kept
 mod Once
 mod Shelves

@@ -1,17 +1,8 @@
 -- Why a log isn't taken.
-use Rattle.std.proofs.Common.{◌≡◌, ◌∙◌, ◌⊎◌, inl, inr, ℕ, ◌+◌, ◌≤◌, List, [], ◌∷◌, length, Bool, true, false, Option, Some, None, IsTrue, true≢false, refl, sym, subst, ap, arith}
-use Rattle.std.specs.Prelude.{◌&&◌}
-use Rattle.sqlite_disk.specs.Disk.{MoreFaults}
-use Rattle.sqlite_wal.specs.Format.{be32}
+use Rattle.office_store.proofs.Names.{◌≡◌, ◌∙◌, ◌⊎◌, inl, inr, ℕ, ◌+◌, ◌≤◌, List, [], ◌∷◌, length, Bool, true, false, Option, Some, None, IsTrue, true≢false, refl, sym, subst, ap, arith, ◌&&◌, MoreFaults, be32, IsPageSize, Names, bytes_of, size_in_file, IsIgnored, PageSize, NamesSize, NamesNoSize, OpenFault}
 use Rattle.sqlite_wal.specs.Outcome.{HasCause}
-use Rattle.sqlite_wal.specs.PageSize.{IsPageSize, Names, bytes_of, size_in_file}
-use Rattle.sqlite_wal.specs.Recovery.{IsIgnored}
 use Rattle.sqlite_wal.specs.declared.error.Error.{Error}
 use Rattle.sqlite_wal.specs.declared.error.Error.TheVariants as wal
-use Rattle.sqlite_wal.specs.declared.page_size.PageSize.{PageSize}
-use Rattle.sqlite.specs.Files.{NamesSize}
-use Rattle.office_store.specs.Logs.{NamesNoSize}
-use Rattle.office_store.specs.declared.found.OpenFault.{OpenFault}
 use Rattle.office_store.specs.declared.found.OpenFault.TheVariants as fault
 
 -- one file's further fault is one of both files

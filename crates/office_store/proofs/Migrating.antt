@@ -1,26 +1,6 @@
 -- An office of an earlier edition is migrated when it is opened.
-use Rattle.std.proofs.Common.{◌≡◌, inl, inr, ℕ, zero, suc, Bool, true, false, List, [], refl, sym, ap, subst, ◌∙◌, IsTrue, true≢false, arith}
-use Rattle.std.specs.Prelude.{not, ◌&&◌, cond, nat_lt, nat_le}
-use Rattle.std.proofs.lemmas.Bool.{and_from, and_parts, leb-true, le-leb, lt-ltb, ltb-false, ltb-true, not-false}
-use Rattle.sqlite_value.specs.Order.{Row}
-use Rattle.sqlite_trees.specs.Tree.{Trees}
+use Rattle.office_store.proofs.Names.{◌≡◌, inl, inr, ℕ, zero, suc, Bool, true, false, List, [], refl, sym, ap, subst, ◌∙◌, IsTrue, true≢false, arith, not, ◌&&◌, cond, nat_lt, nat_le, and_from, and_parts, leb-true, le-leb, lt-ltb, ltb-false, ltb-true, not-false, Row, Trees, Database, Held, state, State, Tables, ClockRow, NoticeRow, HoldsEdition, IsMigrated, ShowsEdition, ShowsOffice, former_part, had_former, edition_of, has_late, version_of, IsAsked, Refused, ShowsTables, this_version, get_version, one_version, ShowsVersion, current_is, current_version, edition_is, edition_version, HoldsThese, Migrates, LeavesCurrent, Migrated, LeavesMigrated, LeavesReadied, LeavesOffice, IsMadeCurrent, Enters, version_in, is_other_version, origin_of, HasForms, KeepsRest, leads_there}
 use Rattle.sqlite_trees.specs.declared.store.Store.{Ghosts}
-use Rattle.sqlite.specs.Effect.{Database}
-use Rattle.sqlite.specs.Held.{Held, state}
-use Rattle.sqlite.specs.State.{State}
-use Rattle.office_base.specs.Tables.{Tables}
-use Rattle.office_base.specs.declared.records.ClockRow.{ClockRow}
-use Rattle.office_base.specs.declared.records.NoticeRow.{NoticeRow}
-use Rattle.office_tables.specs.Earlier.{HoldsEdition, IsMigrated, ShowsEdition, ShowsOffice, former_part, had_former}
-use Rattle.office_tables.specs.Editions.{edition_of, has_late, version_of}
-use Rattle.office_tables.specs.Steps.{IsAsked, Refused, ShowsTables}
-use Rattle.office_tables.specs.Tables.Office.{this_version}
-use Rattle.office_tables.specs.Version.{get_version, one_version, ShowsVersion}
-use Rattle.office_tables.proofs.EarlierEditions.{current_is, current_version, edition_is, edition_version}
-use Rattle.office_changes.specs.Migration.{HoldsThese, Migrates, LeavesCurrent}
-use Rattle.office_store.specs.Founding.{Migrated, LeavesMigrated, LeavesReadied, LeavesOffice, IsMadeCurrent, Enters, version_in, is_other_version, origin_of}
-use Rattle.office_store.specs.Forms.{HasForms}
-use Rattle.office_store.specs.Others.{KeepsRest, leads_there}
 use Rattle.office_store.proofs.Founding.{refused_on}
 use Rattle.office_store.proofs.RestKept.{keeps_rest}
 use Rattle.office_store.proofs.Shelves.{still_shows}

@@ -1,10 +1,5 @@
 -- Equal trees list the same schema.
-use Rattle.std.proofs.Common.{◌≡◌, sym, subst}
-use Rattle.sqlite_trees.specs.Tree.{Trees}
-use Rattle.sqlite_trees.specs.Objects.{catalog_tree}
-use Rattle.sqlite_catalog.specs.Listing.{Lists}
-use Rattle.sqlite_catalog.proofs.ReadLemmas.{lists_once}
-use Rattle.sqlite.specs.Effect.{Database, IsDatabase}
+use Rattle.office_store.proofs.Names.{◌≡◌, sym, subst, Trees, catalog_tree, Lists, lists_once, Database, IsDatabase}
 
 pub schema_once : (d e : Database) → IsDatabase d → IsDatabase e → d.trees ≡ e.trees → d.schema ≡ e.schema
 schema_once d e a b same =

@@ -1,8 +1,6 @@
 -- Files at a path, right after they were opened.
-use Rattle.std.proofs.Common.{◌≡◌, Bool, cond, List, [], ◌∷◌, ℕ, inl, inr, ap, subst, ◌∙◌}
-use Rattle.sqlite_disk.specs.Events.{Event, replay, settled}
+use Rattle.office_store.proofs.Names.{◌≡◌, Bool, cond, List, [], ◌∷◌, ℕ, inl, inr, ap, subst, ◌∙◌, Event, replay, settled, Image}
 use Rattle.sqlite_disk.specs.History.{MayLeave}
-use Rattle.sqlite_wal.specs.Recovery.{Image}
 
 abbrev pub image : List ℕ → List ℕ → Image
 image log db = record { log = log; db = db }

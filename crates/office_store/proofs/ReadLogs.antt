@@ -1,22 +1,7 @@
 -- Files of which only the log was looked at before they were opened.
-use Rattle.std.proofs.Common.{◌≡◌, inl, inr, ℕ, Bool, false, sym, subst, ◌∙◌, true≢false, IsTrue}
+use Rattle.office_store.proofs.Names.{◌≡◌, inl, inr, ℕ, Bool, false, sym, subst, ◌∙◌, true≢false, IsTrue, Files, outcomes, AreClean, OnlyReads, Image, both_clean, IsUnreadable, StandsAs, stored_size, FileStore, state_of, Held, AreFoundIn, BeginsWell, Finds, HoldsDatabase, IsKept, IsNothing, IsUnderWay, LeavesFiles, NamesSize, SaysSums, file_state, image_of, Leftover, same_image, HasCommit, is_unused, OpensUsed, Origin}
 use Rattle.sqlite_disk.specs.declared.Disk.{Ghosts}
-use Rattle.sqlite_disk.specs.declared.Files.{Files}
-use Rattle.sqlite_wal.specs.Files.{outcomes}
-use Rattle.sqlite_wal.specs.Reads.{AreClean, OnlyReads}
-use Rattle.sqlite_wal.specs.Recovery.{Image}
-use Rattle.sqlite_wal.proofs.CleanLemmas.{both_clean}
-use Rattle.sqlite_pool.specs.Stored.{IsUnreadable, StandsAs, stored_size}
-use Rattle.sqlite_store.specs.declared.store.FileStore.{FileStore}
-use Rattle.sqlite_store.specs.Unopened.{state_of}
-use Rattle.sqlite.specs.Held.{Held}
-use Rattle.sqlite.specs.Files.{AreFoundIn, BeginsWell, Finds, HoldsDatabase, IsKept, IsNothing, IsUnderWay, LeavesFiles, NamesSize, SaysSums, file_state, image_of}
-use Rattle.sqlite.specs.declared.file.Leftover.{Leftover}
 use Rattle.sqlite.specs.declared.file.Leftover.TheVariants as left
-use Rattle.sqlite.proofs.FileLemmas.{same_image}
-use Rattle.office_store.specs.Logs.{HasCommit, is_unused}
-use Rattle.office_store.specs.Reopening.{OpensUsed}
-use Rattle.office_store.specs.declared.opened.Origin.{Origin}
 use Rattle.office_store.specs.declared.opened.Origin.TheVariants as from
 
 module _ {D : Type 0} {g : Ghosts D} (old new : Files D) (log : OnlyReads g old.log new.log) (db : OnlyReads g old.db new.db) where

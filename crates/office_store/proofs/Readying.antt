@@ -1,24 +1,7 @@
 -- A query for the ledger's rows begins, or fails.
-use Rattle.std.proofs.Common.{◌≡◌, inl, inr, ℕ, List, Result, Ok, Err, [], refl, sym, subst, ◌∙◌, arith}
-use Rattle.std.specs.Prelude.{IfOk}
-use Rattle.sqlite_value.specs.Order.{Row}
-use Rattle.sqlite_trees.specs.Tree.{Trees}
+use Rattle.office_store.proofs.Names.{◌≡◌, inl, inr, ℕ, List, Result, Ok, Err, [], refl, sym, subst, ◌∙◌, arith, IfOk, Row, Trees, IsPlain, HasGiven, HasBegun, Held, state, understood, State, HasCleanDisk, IsUnchanged, Survives, CommitsShowing, FailsToQuery, FailsToShow, begun_plain, Tables, IsSorted, joined, Holds, Refused, ShowsTables, JoinIsNoWrite, JoinIsPlain, list_joined, HoldsJoined, StoredRowsShow, HasTaken, KeepsOffice}
 use Rattle.sqlite_trees.specs.declared.store.Store.{Ghosts}
-use Rattle.sqlite.specs.Given.{IsPlain, HasGiven, HasBegun}
-use Rattle.sqlite.specs.Held.{Held, state}
-use Rattle.sqlite.specs.Listing.{understood}
-use Rattle.sqlite.specs.State.{State, HasCleanDisk, IsUnchanged, Survives, CommitsShowing, FailsToQuery, FailsToShow}
 use Rattle.sqlite.specs.declared.error.Error.{Error}
-use Rattle.sqlite.proofs.Callers.{begun_plain}
-use Rattle.office_base.specs.Tables.{Tables, IsSorted}
-use Rattle.office_ledger.specs.Joins.{joined}
-use Rattle.office_tables.specs.Standing.{Holds}
-use Rattle.office_tables.specs.Steps.{Refused, ShowsTables}
-use Rattle.office_ledger.specs.Plain.{JoinIsNoWrite, JoinIsPlain}
-use Rattle.office_ledger.specs.Select.{list_joined}
-use Rattle.office_ledger.specs.Shows.{HoldsJoined}
-use Rattle.office_ledger.specs.Standing.{StoredRowsShow}
-use Rattle.office_store.specs.LedgerRows.{HasTaken, KeepsOffice}
 use Rattle.office_store.proofs.Joined.{holds_joined}
 use Rattle.office_store.proofs.Shelves.{still_shows}
 use Rattle.office_store.proofs.Kept.{unchanged, not_run_kept}

@@ -1,42 +1,11 @@
 -- The last commit is found again, files may hold no database, and a refused opening leaves the files or their store.
-use Rattle.std.proofs.Common.{arith, ◌≡◌, inl, inr, [], refl, sym, ap, subst, ◌∙◌}
-use Rattle.std.proofs.Math.Logic.{∥∥₁_elim, ∥∥₁_map}
-use Rattle.std.specs.Prelude.{length, IsTrue}
+use Rattle.office_store.proofs.Names.{arith, ◌≡◌, inl, inr, [], refl, sym, ap, subst, ◌∙◌, ∥∥₁_elim, ∥∥₁_map, length, IsTrue, Files, Image, SeenMayStay, FileStore, recovers, view, faults, is_shielded, settled_at, catalog_tree, Trees-set, Trees, IsQuiet, no_doubt, Database, IsDatabase, Held, AreDatabases, HasCleanDisk, Survives, store_error, StoreError, file_state, over_files, image_of, IsOpened, IsClosed, ExcusesClose, FailsToClose, Finds, IsCleanLeft, FindsIn, HoldsAlone, IsCopied, Leftover, empty_is_sound, opens_again, Tables, IsFaultOf, fault_of, ShowsOffice, TreesTellOneOffice, Refused, EntersOrCanNot, LeavesOffice, IsNoOffice, LeavesNoOther, Found, FilesHoldOffice, ClosingFails, HoldStill, IsHalfClosed, IsLeftOf, IsPutDown, IsReason, IsUsableLeft, LeavesFound, MayCommit, OpenFault}
 use Rattle.sqlite_disk.specs.declared.Disk.{Ghosts}
-use Rattle.sqlite_disk.specs.declared.Files.{Files}
-use Rattle.sqlite_wal.specs.Recovery.{Image}
-use Rattle.sqlite_wal.proofs.LogLemmas.{SeenMayStay}
-use Rattle.sqlite_store.specs.declared.store.FileStore.{FileStore}
-use Rattle.sqlite_store.specs.FileStore.{recovers, view, faults, is_shielded}
-use Rattle.sqlite_store.specs.Laws.{settled_at}
-use Rattle.sqlite_trees.specs.Objects.{catalog_tree}
-use Rattle.sqlite_trees.specs.Props.{Trees-set}
-use Rattle.sqlite_trees.specs.Tree.{Trees}
-use Rattle.sqlite_trees.specs.View.{IsClean, IsQuiet}
-use Rattle.sqlite_trees.proofs.Doubt.{no_doubt}
-use Rattle.sqlite.specs.Effect.{Database, IsDatabase}
-use Rattle.sqlite.specs.Held.{Held, AreDatabases}
-use Rattle.sqlite.specs.State.{HasCleanDisk, Survives, store_error}
+use Rattle.sqlite_trees.specs.View.{IsClean}
 use Rattle.sqlite.specs.declared.error.Error.{Error}
-use Rattle.sqlite_trees.specs.declared.error.StoreError.{StoreError}
 use Rattle.sqlite_trees.specs.declared.error.StoreError.TheVariants as stores
-use Rattle.sqlite.specs.Files.{file_state, over_files, image_of, IsOpened, IsClosed, ExcusesClose, FailsToClose, Finds, IsCleanLeft}
-use Rattle.sqlite.specs.Start.{FindsIn}
-use Rattle.sqlite.specs.Closing.{HoldsAlone, IsCopied}
-use Rattle.sqlite.specs.declared.file.Leftover.{Leftover}
 use Rattle.sqlite.specs.declared.file.Leftover.TheVariants as left
-use Rattle.sqlite.proofs.ListingLemmas.{empty_is_sound}
-use Rattle.sqlite.proofs.Theorems.{opens_again}
-use Rattle.office_base.specs.Tables.{Tables}
-use Rattle.office_base.specs.Faults.{IsFaultOf}
-use Rattle.office_tables.specs.Failing.{fault_of}
-use Rattle.office_tables.specs.Earlier.{ShowsOffice, HoldsOffice as HasOffice}
-use Rattle.office_tables.specs.Laws.{TreesTellOneOffice}
-use Rattle.office_tables.specs.Steps.{Refused}
-use Rattle.office_store.specs.Founding.{EntersOrCanNot, LeavesOffice, IsNoOffice}
-use Rattle.office_store.specs.SqlMeaning.{LeavesNoOther}
-use Rattle.office_store.specs.Reopening.{Found, FilesHoldOffice, ClosingFails, HoldStill, IsHalfClosed, IsLeftOf, IsPutDown, IsReason, IsUsableLeft, LeavesFound, MayCommit}
-use Rattle.office_store.specs.declared.found.OpenFault.{OpenFault}
+use Rattle.office_tables.specs.Earlier.{HoldsOffice as HasOffice}
 use Rattle.office_store.specs.declared.found.OpenFault.TheVariants as fault
 use Rattle.office_store.proofs.Founding.{no_schema}
 use Rattle.office_store.proofs.Once.{schema_once}

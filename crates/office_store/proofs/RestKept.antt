@@ -1,23 +1,5 @@
 -- If nothing of other programs leads to the tables that a migration changes, all other tables keep their rows.
-use Rattle.std.proofs.Common.{◌≡◌, ◌⊎◌, inl, inr, ℕ, ◌==◌, ◌||◌, Bool, true, false, cond, List, [], ◌∷◌, Option, Some, None, find, refl, sym, ap, ◌∙◌, subst, true≢false}
-use Rattle.std.specs.Prelude.{not, ◌&&◌, option_and_then, option_map, slice_get}
-use Rattle.std.specs.List.{list_any}
-use Rattle.std.proofs.lemmas.Bool.{eq-eqb, eqb-true, or_cases, or_left, or_right, cases_Bool}
-use Rattle.sqlite_schema.specs.declared.schema.Reference.{Reference}
-use Rattle.sqlite_schema.specs.declared.schema.Schema.{Schema}
-use Rattle.sqlite_schema.specs.declared.schema.Table.{Table}
-use Rattle.sqlite_schema.specs.Names.{same_name}
-use Rattle.sqlite_schema.specs.Rules.{ParentKey, parent_key, key_in, key_places}
-use Rattle.sqlite_rules.specs.Lists.{Has}
-use Rattle.sqlite_rules.proofs.ListLemmas.{has_found, some_from}
-use Rattle.sqlite.specs.Effect.{Database}
-use Rattle.office_base.specs.Tables.{Tables}
-use Rattle.office_tables.specs.Apart.{LeadsInside}
-use Rattle.office_tables.specs.Earlier.{AreApart, IsMigrated, changed_tables, changed_where, had_former}
-use Rattle.office_tables.specs.Known.{IsIn, at_tree}
-use Rattle.office_tables.specs.Schema.{OfficeTable, table_of}
-use Rattle.office_tables.specs.Schema.OfficeTable.{FormerNotices, Notices, Office}
-use Rattle.office_store.specs.Others.{KeepsRest, is_changed, is_changed_where, leads_there, refers_there}
+use Rattle.office_store.proofs.Names.{◌≡◌, ◌⊎◌, inl, inr, ℕ, ◌==◌, ◌||◌, Bool, true, false, cond, List, [], ◌∷◌, Option, Some, None, find, refl, sym, ap, ◌∙◌, subst, true≢false, not, ◌&&◌, option_and_then, option_map, slice_get, list_any, eq-eqb, eqb-true, or_cases, or_left, or_right, cases_Bool, Reference, Schema, Table, same_name, ParentKey, parent_key, key_in, key_places, Has, has_found, some_from, Database, Tables, LeadsInside, AreApart, IsMigrated, changed_tables, changed_where, had_former, IsIn, at_tree, OfficeTable, table_of, FormerNotices, Notices, Office, KeepsRest, is_changed, is_changed_where, leads_there, refers_there}
 
 -- ---- tests that fail
 

@@ -1,23 +1,8 @@
 -- The effect of each call of the store on its content.
-use Rattle.std.proofs.Common.{Ok, Err, Result, ℕ, arith, ◌≡◌, ◌⊎◌, inl, inr, List, refl, sym, subst, IsTrue}
-use Rattle.std.specs.Prelude.{⊤, IfErr}
+use Rattle.office_store.proofs.Names.{Ok, Err, Result, ℕ, arith, ◌≡◌, ◌⊎◌, inl, inr, List, refl, sym, subst, IsTrue, ⊤, IfErr, Database, Held, state, State, HasCleanDisk, IsLive, Survives, one_fault_more, count_after, IsFaultOf, Keeps, LooksUp, SumsAnswer, AddsUp, Alters, PutsFail, Changes, Tables, IsSorted, after_puts, ChangesKeepOrder, Put, ShelfFault, NoMemory, Store, fault_of, IsExcused, ChangeFails, TreesTellOneOffice, Holds, Refused, Applied, Leaves, LeavesPuts, ShowsTables, TellsOnly, sql_meaning, LeavesOffices, KeepsOffice}
 use Rattle.sqlite_trees.specs.declared.store.Store.{Ghosts}
-use Rattle.sqlite.specs.Effect.{Database}
-use Rattle.sqlite.specs.Held.{Held, state}
-use Rattle.sqlite.specs.State.{State, HasCleanDisk, IsLive, Survives}
 use Rattle.sqlite.specs.declared.error.Error.{Error}
-use Rattle.office_base.specs.Faults.{one_fault_more, count_after, IsFaultOf}
-use Rattle.office_base.specs.Shelves.{Keeps, LooksUp, SumsAnswer, AddsUp, Alters, PutsFail, Changes}
-use Rattle.office_base.specs.Tables.{Tables, IsSorted, after_puts, ChangesKeepOrder}
-use Rattle.office_base.specs.declared.puts.Put.{Put}
-use Rattle.office_base.specs.declared.shelf.ShelfFault.{ShelfFault}
-use Rattle.office_base.specs.declared.shelf.ShelfFault.TheVariants.{NoMemory, Store}
-use Rattle.office_tables.specs.Failing.{fault_of, IsExcused, ChangeFails}
-use Rattle.office_tables.specs.Laws.{TreesTellOneOffice}
-use Rattle.office_tables.specs.Standing.{Holds}
-use Rattle.office_tables.specs.Steps.{Refused, Applied, Leaves, LeavesPuts, ShowsTables, TellsOnly, MayLeave}
-use Rattle.office_store.specs.SqlMeaning.{sql_meaning, LeavesOffices}
-use Rattle.office_store.specs.LedgerRows.{KeepsOffice}
+use Rattle.office_tables.specs.Steps.{MayLeave}
 use Rattle.office_store.proofs.Once.{schema_once}
 
 -- ---- the last commit

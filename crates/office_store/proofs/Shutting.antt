@@ -1,11 +1,7 @@
 -- The result of preparing a statement shows whether the store was shut.
-use Rattle.std.proofs.Common.{◌≡◌, inl, inr, ℕ, List, Bool, true, false, not, Ok, refl, sym, ap, subst, ◌∙◌, IsTrue}
-use Rattle.sqlite_value.specs.Order.{Row}
-use Rattle.sqlite_trees.specs.declared.error.StoreError.{StoreError}
-use Rattle.sqlite_trees.specs.declared.error.StoreError.TheVariants.{OutOfMemory, Io, Corrupt, Full, Broken, Unstorable}
+use Rattle.office_store.proofs.Names.{◌≡◌, inl, inr, ℕ, List, Bool, true, false, not, Ok, refl, sym, ap, subst, ◌∙◌, IsTrue, Row, StoreError, OutOfMemory, Io, Corrupt, Full, Broken, Unstorable, State, IsUnchanged, IsNoStatement, IsNotRun, IsRolledBack, store_error, IsTold, told_by}
 use Rattle.sqlite.specs.declared.error.Error.{Error}
-use Rattle.sqlite.specs.State.{State, IsUnchanged, IsNoStatement, IsNotRun, IsRolledBack, HasCause, store_error}
-use Rattle.office_store.specs.Shutting.{IsTold, told_by}
+use Rattle.sqlite.specs.State.{HasCause}
 
 pub told_open : (old new : State) → IsUnchanged old new → IsTold old new (Ok false)
 told_open old new same = (ap not (sym same.0.was_open), same.0.is_open ∙ sym same.0.was_open, tt)

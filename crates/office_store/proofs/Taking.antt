@@ -1,20 +1,6 @@
 -- The rows of a join that were taken, and the next row.
-use Rattle.std.proofs.Common.{◌≡◌, List, [], ◌∷◌, ◌++◌, map, Some, None, refl, sym, ap, subst, ◌∙◌}
-use Rattle.sqlite_value.specs.Order.{Row}
+use Rattle.office_store.proofs.Names.{◌≡◌, List, [], ◌∷◌, ◌++◌, map, Some, None, refl, sym, ap, subst, ◌∙◌, Row, HasGiven, Advances, Held, state, IsUnchanged, given_begin, Tables, joined, JoinedRow, joined_cells, joined_read, JoinedRowsComeBack, list_joined, HoldsJoined, JoinIsShown, JoinIsBegun, HasTaken}
 use Rattle.sqlite_trees.specs.declared.store.Store.{Ghosts}
-use Rattle.sqlite.specs.Given.{HasGiven, Advances}
-use Rattle.sqlite.specs.Held.{Held, state}
-use Rattle.sqlite.specs.State.{IsUnchanged}
-use Rattle.sqlite.proofs.Callers.{given_begin}
-use Rattle.office_base.specs.Tables.{Tables}
-use Rattle.office_ledger.specs.Joins.{joined}
-use Rattle.office_ledger.specs.declared.joined.JoinedRow.{JoinedRow}
-use Rattle.office_ledger.specs.Cells.{joined_cells}
-use Rattle.office_ledger.specs.Reading.{joined_read}
-use Rattle.office_ledger.specs.ReadBack.{JoinedRowsComeBack}
-use Rattle.office_ledger.specs.Select.{list_joined}
-use Rattle.office_ledger.specs.Shows.{HoldsJoined, JoinIsShown, JoinIsBegun}
-use Rattle.office_store.specs.LedgerRows.{HasTaken}
 
 push : {X : Type 0} (xs : List X) (x : X) (ys : List X) → (xs ++ x ∷ []) ++ ys ≡ xs ++ x ∷ ys
 push [] x ys = refl

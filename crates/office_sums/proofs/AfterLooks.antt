@@ -1,13 +1,5 @@
 -- A change after look-ups.
-use Rattle.std.specs.Prelude.{◌≡◌, ◌⊎◌, List}
-use Rattle.std.proofs.Common.{inl, inr}
-use Rattle.office_base.specs.Faults.{IsFaultOf}
-use Rattle.office_base.specs.Shelves.{Meaning, Keeps}
-use Rattle.office_base.specs.Tables.{Tables}
-use Rattle.office_base.specs.declared.puts.Put.{Put}
-use Rattle.office_base.specs.declared.shelf.ShelfFault.{ShelfFault}
-use Rattle.office_base.specs.declared.shelf.ShelfFault.TheVariants.{NoMemory, Store}
-use Rattle.office_sums.specs.RememberingMeaning.{FailsAfterLooks}
+use Rattle.office_sums.proofs.Names.{◌≡◌, ◌⊎◌, List, inl, inr, IsFaultOf, Meaning, Keeps, Tables, Put, ShelfFault, NoMemory, Store, FailsAfterLooks}
 
 module _ {S : Type 0} (M : Meaning S) (old middle new : S) (keeps : Keeps M old middle) where
   pub fails_after : (puts : List Put) (fault : ShelfFault) → IsFaultOf (M.has_failed middle new puts) fault → IsFaultOf (FailsAfterLooks M old new puts) fault

@@ -1,39 +1,11 @@
 -- The lines that a change touches, and the sums that it leaves, by the rows that were looked up before it.
-use Rattle.std.specs.Prelude.{◌≡◌, ℕ, Bool, true, false, cond, ◌&&◌, not, List, [], Option, Some, None, option_map, filter, length, IfSome}
-use Rattle.std.proofs.Common.{Vec, Global, arith, rules, refl, sym, ap, subst, ◌∙◌}
-use Rattle.std.specs.Bool.{◌==◌}
-use Rattle.std.specs.Vec.{vec_len}
-use Rattle.std.proofs.lemmas.List.{nil_from_length}
-use Rattle.std.specs.FinMap.{nat_cmp-IsAntisymmetric}
-use Rattle.std.specs.List.{list_all}
-use Rattle.std.specs.Ordering.{is_eq}
-use Rattle.std.proofs.lemmas.Cmp.{nat_cmp_total}
-use Rattle.office_values.specs.Ids.{same_id}
-use Rattle.office_base.specs.EntrySums.{bare_sums, sums_with_entries, sums_with_entry}
-use Rattle.office_base.specs.Rows.{holds_of}
-use Rattle.office_base.specs.Tables.{Tables, IsSorted, same_number, lot_key, contract_key, entry_key, of_line, contracts_of_notice, entries_of_contract, find_contract, find_entry, lot_at, contract_at, after_put, after_puts}
-use Rattle.office_base.specs.Joined.{is_on_line, sums_of}
-use Rattle.office_base.specs.declared.ledger.ContractSums.{ContractSums}
-use Rattle.office_base.specs.declared.records.ContractRow.{ContractRow}
-use Rattle.office_base.specs.declared.records.EntryRow.{EntryRow}
-use Rattle.office_base.specs.declared.records.LotRow.{LotRow}
-use Rattle.office_base.specs.declared.puts.Put.{Put}
+use Rattle.office_sums.proofs.Names.{◌≡◌, ℕ, Bool, true, false, cond, ◌&&◌, not, List, [], Option, Some, None, option_map, filter, length, IfSome, Vec, Global, arith, rules, refl, sym, ap, subst, ◌∙◌, ◌==◌, vec_len, nil_from_length, nat_cmp-IsAntisymmetric, list_all, is_eq, nat_cmp_total, same_id, bare_sums, sums_with_entries, sums_with_entry, holds_of, Tables, IsSorted, same_number, lot_key, contract_key, entry_key, of_line, contracts_of_notice, entries_of_contract, find_contract, find_entry, lot_at, contract_at, after_put, after_puts, is_on_line, sums_of, ContractSums, ContractRow, EntryRow, LotRow, Put, sums_are, equal_ids, equal_keys, same_itself, found_compares, weight, leaves_contracts, reservation_of, keeps_lot, sums_before, AreReserved, AreShifted, FromContract, FromNewEntry, FromNewLot, FromNewRow, FromReserved, IsCarried, TouchesNone, AreSums, Remembers, lines_of_lot, lines_of_contract, IsNoneOf, Carried, Reservation, SumsOfLine}
 use Rattle.office_base.specs.declared.puts.Put.TheVariants as puts
-use Rattle.office_base.proofs.EntrySums.{sums_are}
-use Rattle.office_base.proofs.ExactKeys.{equal_ids, equal_keys, same_itself}
-use Rattle.office_base.proofs.RowLaws.Found.{found_compares}
-use Rattle.office_base.proofs.SumsOver.{weight}
 use Rattle.office_sums.proofs.ContractMoved.{contract_moved, counts}
 use Rattle.office_sums.proofs.LastLots.{contracts_left, entries_left}
 use Rattle.office_sums.proofs.LotMoved.{lot_added, lot_changed}
 use Rattle.office_sums.proofs.NoneOf.{none_of_both}
 use Rattle.office_sums.proofs.OneMore.{number_is, one_more}
-use Rattle.office_sums.specs.Carried.{leaves_contracts, reservation_of, keeps_lot, sums_before, AreReserved, AreShifted, FromContract, FromNewEntry, FromNewLot, FromNewRow, FromReserved, IsCarried, TouchesNone}
-use Rattle.office_sums.specs.Remembered.{AreSums, Remembers}
-use Rattle.office_sums.specs.Touched.{lines_of_lot, lines_of_contract, IsNoneOf}
-use Rattle.office_sums.specs.declared.carried.Carried.{Carried}
-use Rattle.office_sums.specs.declared.carried.Reservation.{Reservation}
-use Rattle.office_sums.specs.declared.sums.SumsOfLine.{SumsOfLine}
 
 abbrev carried_at : List ℕ → Option SumsOfLine → Carried
 carried_at line sums = record { line = line; sums = sums }

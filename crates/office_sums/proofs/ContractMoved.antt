@@ -1,22 +1,6 @@
 -- A contract that has other sums than before changes the sums of its line by the difference.
-use Rattle.std.specs.Prelude.{◌≡◌, ℕ, ◌+◌, ◌≤◌, Bool, true, false, cond, List, [], ◌∷◌, map, filter}
-use Rattle.std.proofs.Common.{refl, sym, ap, subst, ◌∙◌, arith}
-use Rattle.std.specs.List.{AllByRecursion}
-use Rattle.std.specs.Ordering.{nat_cmp}
-use Rattle.std.proofs.lemmas.Cmp.{nat_cmp_total}
-use Rattle.office_values.specs.Money.{total_limit}
-use Rattle.office_base.specs.LineSums.{outstanding_in, paid_in}
-use Rattle.office_base.specs.Sums.{sum_over}
-use Rattle.office_base.specs.Tables.{Tables, contract_key, find_contract, put_contract, after_put}
-use Rattle.office_base.specs.Joined.{plus, minus, contracted, paid, is_on_line, contracts_of_line, sums_of}
-use Rattle.office_base.specs.declared.ledger.ContractSums.{ContractSums}
-use Rattle.office_base.specs.declared.records.ContractRow.{ContractRow}
+use Rattle.office_sums.proofs.Names.{◌≡◌, ℕ, ◌+◌, ◌≤◌, Bool, true, false, cond, List, [], ◌∷◌, map, filter, refl, sym, ap, subst, ◌∙◌, arith, AllByRecursion, nat_cmp, nat_cmp_total, total_limit, outstanding_in, paid_in, sum_over, Tables, contract_key, find_contract, put_contract, after_put, plus, minus, contracted, paid, is_on_line, contracts_of_line, sums_of, ContractSums, ContractRow, all-put, weight, sum_over-filter, sum_over-put, AreShifted, AreSums, SumsOfLine}
 use Rattle.office_base.specs.declared.puts.Put.TheVariants as puts
-use Rattle.office_base.proofs.RowLaws.{all-put}
-use Rattle.office_base.proofs.SumsOver.{weight, sum_over-filter, sum_over-put}
-use Rattle.office_sums.specs.Carried.{AreShifted}
-use Rattle.office_sums.specs.Remembered.{AreSums}
-use Rattle.office_sums.specs.declared.sums.SumsOfLine.{SumsOfLine}
 
 -- a property of the rows that pass a test, said of all rows
 to_step : {X : Type 0} (P : X → Type 0) (p : X → Bool) (x : X) (kept : List X) (Q : Type 0) → (AllByRecursion P kept → Q) → (b : Bool) → p x ≡ b

@@ -1,11 +1,5 @@
 -- The sums of a contract are those of its row and those of its entries together.
-use Rattle.std.specs.Prelude.{◌≡◌, ℕ, ◌+◌, List, [], ◌∷◌}
-use Rattle.std.proofs.Common.{refl, ap, ◌∙◌, arith}
-use Rattle.office_base.specs.EntrySums.{sums_with_entries, sums_with_entry}
-use Rattle.office_base.specs.declared.ledger.ContractSums.{ContractSums}
-use Rattle.office_base.specs.declared.records.EntryKind.{EntryKind}
-use Rattle.office_base.specs.declared.records.EntryKind.TheVariants.{Raise, Cut, Payment}
-use Rattle.office_base.specs.declared.records.EntryRow.{EntryRow}
+use Rattle.office_sums.proofs.Names.{◌≡◌, ℕ, ◌+◌, List, [], ◌∷◌, refl, ap, ◌∙◌, arith, sums_with_entries, sums_with_entry, ContractSums, EntryKind, Raise, Cut, Payment, EntryRow}
 
 abbrev pub both : ContractSums → ContractSums → ContractSums
 both s z = record { gained = s.gained + z.gained; lost = s.lost + z.lost; paid = s.paid + z.paid }

@@ -1,16 +1,6 @@
 -- The sums that are remembered after a line was forgotten.
-use Rattle.std.specs.Prelude.{◌≡◌, ℕ, Bool, true, false, cond, List, Option, Some, None}
-use Rattle.std.proofs.Common.{refl, sym, ◌∙◌}
-use Rattle.std.specs.BTreeMap.{is_at}
-use Rattle.std.specs.Cmp.Lexicographic.{texts_ties}
-use Rattle.office_values.specs.Ids.{id_cmp, same_id}
-use Rattle.office_base.specs.Tables.{Tables, IsSorted, after_put}
-use Rattle.office_base.specs.declared.puts.Put.{Put}
+use Rattle.office_sums.proofs.Names.{◌≡◌, ℕ, Bool, true, false, cond, List, Option, Some, None, refl, sym, ◌∙◌, is_at, texts_ties, id_cmp, same_id, Tables, IsSorted, after_put, Put, IsCarried, TouchesNone, sums_at, Forgets, Remembers, Carried, SumsOfLine}
 use Rattle.office_sums.proofs.SumsStaying.{sums_stay}
-use Rattle.office_sums.specs.Carried.{IsCarried, TouchesNone}
-use Rattle.office_sums.specs.Remembered.{sums_at, Forgets, Remembers}
-use Rattle.office_sums.specs.declared.carried.Carried.{Carried}
-use Rattle.office_sums.specs.declared.sums.SumsOfLine.{SumsOfLine}
 
 step : (b : Bool) (old new : Option SumsOfLine) (sums : SumsOfLine) → new ≡ cond b None old → new ≡ Some sums → (old ≡ Some sums) × (b ≡ false)
 step true old new sums is found = absurd (let none : None ≡ Some sums = sym is ∙ found in cc)

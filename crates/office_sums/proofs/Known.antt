@@ -1,18 +1,5 @@
 -- Sums that are remembered once they were added up, and balances that are made from remembered sums.
-use Rattle.std.specs.Prelude.{◌≡◌, ℕ, Bool, true, false, cond, List, [], Option, Some, None, Result, Ok, Err, OnOk, OnErr, IfSome, IfNone}
-use Rattle.std.proofs.Common.{refl, sym, ap, subst, ◌∙◌}
-use Rattle.std.specs.BTreeMap.{BTreeMap, is_at, Updates}
-use Rattle.std.proofs.lemmas.Map.Lookups.{exact_bytes}
-use Rattle.std.proofs.lemmas.Map.Views.{tells_apart}
-use Rattle.office_values.specs.Ids.{id_cmp}
-use Rattle.office_base.specs.Tables.{Tables}
-use Rattle.office_base.specs.Joined.{reserved, contracted, pots_of, reservations, sums_of_line, LineFits}
-use Rattle.office_base.specs.LineSums.{pots_with, SumsFit, AreJoined}
-use Rattle.office_base.specs.declared.ledger.ContractSums.{ContractSums}
-use Rattle.office_base.specs.declared.ledger.Pots.{Pots}
-use Rattle.office_base.specs.declared.records.LineRow.{LineRow}
-use Rattle.office_sums.specs.Remembered.{sums_at, pots_by, sums_in, AreSums, IsSummed, Remembers}
-use Rattle.office_sums.specs.declared.sums.SumsOfLine.{SumsOfLine}
+use Rattle.office_sums.proofs.Names.{◌≡◌, ℕ, Bool, true, false, cond, List, [], Option, Some, None, Result, Ok, Err, OnOk, OnErr, IfSome, IfNone, refl, sym, ap, subst, ◌∙◌, BTreeMap, is_at, Updates, exact_bytes, tells_apart, id_cmp, Tables, reserved, contracted, pots_of, reservations, sums_of_line, LineFits, pots_with, SumsFit, AreJoined, ContractSums, Pots, LineRow, sums_at, pots_by, sums_in, AreSums, IsSummed, Remembers, SumsOfLine}
 
 -- nothing is remembered
 pub none_known : {A : Type 0} (line : List ℕ) (sums : SumsOfLine) → sums_at [] line ≡ Some sums → A

@@ -1,21 +1,6 @@
 -- The lot under a key after some changes, and the tables that changes leave.
-use Rattle.std.specs.Prelude.{◌≡◌, ℕ, ◌+◌, ◌<◌, Bool, true, false, cond, ◌&&◌, List, [], ◌∷◌, ◌++◌, length, take, Option, Some, None, option_map}
-use Rattle.std.proofs.Math.ListN.{get_or}
-use Rattle.std.proofs.lemmas.List.{take_more}
-use Rattle.std.proofs.Common.{refl, sym, ap, ◌∙◌}
-use Rattle.std.specs.List.{list_all}
-use Rattle.std.specs.Ordering.{eq_by_cmp, is_eq, ordering_then}
-use Rattle.std.specs.declared.cmp.Ordering.{Ordering}
-use Rattle.std.specs.declared.cmp.Ordering.TheVariants.{Less, Equal, Greater}
-use Rattle.office_values.specs.Ids.{id_cmp, same_id}
-use Rattle.office_base.specs.Tables.{Tables, lot_cmp, lot_key, lot_at, after_put, after_puts}
-use Rattle.office_base.specs.declared.puts.Put.{Put}
+use Rattle.office_sums.proofs.Names.{◌≡◌, ℕ, ◌+◌, ◌<◌, Bool, true, false, cond, ◌&&◌, List, [], ◌∷◌, ◌++◌, length, take, Option, Some, None, option_map, get_or, take_more, refl, sym, ap, ◌∙◌, list_all, eq_by_cmp, is_eq, ordering_then, Ordering, Less, Equal, Greater, id_cmp, same_id, Tables, lot_cmp, lot_key, lot_at, after_put, after_puts, Put, LotRow, same_id_is, lots_total, row_at-row_put, leaves_contracts, lot_put, either_row, last_lot, reservation_of}
 use Rattle.office_base.specs.declared.puts.Put.TheVariants as puts
-use Rattle.office_base.specs.declared.records.LotRow.{LotRow}
-use Rattle.office_base.proofs.ExactKeys.{same_id_is}
-use Rattle.office_base.proofs.Orders.{lots_total}
-use Rattle.office_base.proofs.RowLaws.{row_at-row_put}
-use Rattle.office_sums.specs.Carried.{leaves_contracts, lot_put, either_row, last_lot, reservation_of}
 
 pub either_assoc : {X : Type 0} (a b c : Option X) → either_row (either_row a b) c ≡ either_row a (either_row b c)
 either_assoc None b c = refl

@@ -1,10 +1,5 @@
 -- A ledger that is made line by line.
-use Rattle.std.specs.Prelude.{◌≡◌, List, ◌++◌, map}
-use Rattle.std.specs.List.{AllByRecursion}
-use Rattle.office_base.specs.Tables.{Tables}
-use Rattle.office_base.specs.Joined.{ledger_row, ledger_of, LineFits, LinesFit}
-use Rattle.office_base.specs.declared.records.LineRow.{LineRow}
-use Rattle.office_base.specs.declared.ledger.LedgerRow.{LedgerRow}
+use Rattle.office_sums.proofs.Names.{◌≡◌, List, ◌++◌, map, AllByRecursion, Tables, ledger_row, ledger_of, LineFits, LinesFit, LineRow, LedgerRow}
 
 abbrev AreFit : Tables → List LineRow → Type 0
 AreFit t lines = AllByRecursion (λ (row : LineRow). LineFits row.line t) lines

@@ -1,12 +1,5 @@
 -- A ledger within its bounds has the sums of its lines.
-use Rattle.std.specs.Prelude.{◌≡◌, List, [], ◌∷◌, map}
-use Rattle.std.proofs.Common.{refl, sym, subst}
-use Rattle.std.specs.List.{AllByRecursion}
-use Rattle.office_base.specs.Tables.{Tables}
-use Rattle.office_base.specs.Joined.{ledger_row, ledger_of, LineFits, LinesFit}
-use Rattle.office_base.specs.declared.records.LineRow.{LineRow}
-use Rattle.office_base.specs.declared.ledger.LedgerRow.{LedgerRow}
-use Rattle.office_sums.specs.Remembered.{AreBalances}
+use Rattle.office_sums.proofs.Names.{◌≡◌, List, [], ◌∷◌, map, refl, sym, subst, AllByRecursion, Tables, ledger_row, ledger_of, LineFits, LinesFit, LineRow, LedgerRow, AreBalances}
 
 each_told : (t : Tables) (lines : List LineRow) → AllByRecursion (λ (row : LineRow). LineFits row.line t) lines → AreBalances (map (ledger_row t) lines) t
 each_told t [] h = tt

@@ -1,3 +1,4 @@
+pub mod Names
 pub mod NoneOf
 pub mod PutRows
 pub mod PutLast

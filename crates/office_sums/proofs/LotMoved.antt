@@ -1,26 +1,8 @@
 -- A lot that reserves another amount on its line changes what the line reserves by the difference.
-use Rattle.std.specs.Prelude.{◌≡◌, ℕ, ◌+◌, ◌≤◌, Bool, true, false, cond, List, [], ◌∷◌, map, filter, Some, None}
-use Rattle.std.proofs.Common.{refl, sym, ap, subst, ◌∙◌, arith}
-use Rattle.std.specs.List.{AllByRecursion}
-use Rattle.std.specs.Ordering.{eq_by_cmp}
-use Rattle.office_values.specs.Ids.{same_id}
-use Rattle.office_values.specs.Money.{total_limit}
-use Rattle.office_base.specs.Rows.{holds_of}
-use Rattle.office_base.specs.Sums.{sum_over}
-use Rattle.office_base.specs.Tables.{Tables, lot_cmp, lot_key, find_lot, put_lot, of_line, contracts_of_notice, after_put}
-use Rattle.office_base.specs.Joined.{plus, minus, reserved, contracted, paid, outstanding, paid_under, is_on_line, contracts_of_line}
-use Rattle.office_base.specs.declared.records.ContractRow.{ContractRow}
-use Rattle.office_base.specs.declared.records.LotRow.{LotRow}
+use Rattle.office_sums.proofs.Names.{◌≡◌, ℕ, ◌+◌, ◌≤◌, Bool, true, false, cond, List, [], ◌∷◌, map, filter, Some, None, refl, sym, ap, subst, ◌∙◌, arith, AllByRecursion, eq_by_cmp, same_id, total_limit, holds_of, sum_over, Tables, lot_cmp, lot_key, find_lot, put_lot, of_line, contracts_of_notice, after_put, plus, minus, reserved, contracted, paid, outstanding, paid_under, is_on_line, contracts_of_line, ContractRow, LotRow, lots_exact, equal_keys, same_itself, lots_total, row_at-row_put, weight, sum_over-filter, sum_over-put, AreReserved, AreSums, SumsOfLine}
 use Rattle.office_base.specs.declared.puts.Put.TheVariants as puts
-use Rattle.office_base.proofs.ExactKeys.{lots_exact, equal_keys, same_itself}
-use Rattle.office_base.proofs.Orders.{lots_total}
-use Rattle.office_base.proofs.RowLaws.{row_at-row_put}
-use Rattle.office_base.proofs.SumsOver.{weight, sum_over-filter, sum_over-put}
 use Rattle.office_sums.proofs.PutAmounts.{on_line-put_lot}
 use Rattle.office_sums.proofs.PutRows.{filter-ext}
-use Rattle.office_sums.specs.Carried.{AreReserved}
-use Rattle.office_sums.specs.Remembered.{AreSums}
-use Rattle.office_sums.specs.declared.sums.SumsOfLine.{SumsOfLine}
 
 -- what a lot reserves on a line
 abbrev share : List ℕ → LotRow → ℕ

@@ -1,6 +1,5 @@
 -- A line that is none of the lines of two lists.
-use Rattle.std.specs.Prelude.{ℕ, List, [], ◌∷◌, ◌++◌}
-use Rattle.office_sums.specs.Touched.{IsNoneOf}
+use Rattle.office_sums.proofs.Names.{ℕ, List, [], ◌∷◌, ◌++◌, IsNoneOf}
 
 pub none_of_first : (line : List ℕ) (xs ys : List (List ℕ)) → IsNoneOf line (xs ++ ys) → IsNoneOf line xs
 none_of_first line [] ys h = tt

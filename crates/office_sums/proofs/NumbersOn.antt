@@ -1,26 +1,8 @@
 -- The numbers of a notice's releases after one more release, and the numbers that are remembered then.
-use Rattle.std.specs.Prelude.{◌≡◌, ℕ, zero, suc, ◌≤◌, ◌<◌, Bool, true, false, cond, List, [], ◌∷◌, ◌++◌, map, filter, Option, Some, None, Result, Ok, Err, OnOk, OnErr}
-use Rattle.std.proofs.Common.{refl, sym, ap, subst, ◌∙◌, arith}
-use Rattle.std.proofs.lemmas.List.{map-append}
-use Rattle.std.specs.BTreeMap.{BTreeMap, is_at, Updates}
-use Rattle.std.proofs.lemmas.Map.Lookups.{exact_bytes}
-use Rattle.std.proofs.lemmas.Map.Views.{tells_apart}
-use Rattle.std.specs.Cmp.{nat_cmp_is}
-use Rattle.std.specs.Cmp.Lexicographic.{nat_list_cmp_total, texts_ties}
-use Rattle.std.specs.List.{AllByRecursion}
-use Rattle.std.specs.Ordering.{nat_cmp, ordering_then}
-use Rattle.std.specs.declared.cmp.Ordering.TheVariants.{Equal, Greater}
-use Rattle.office_values.specs.Ids.{id_cmp, same_id}
-use Rattle.office_base.specs.Rows.{row_at, holds_of}
-use Rattle.office_base.specs.Tables.{Tables, IsSorted, release_cmp, release_key, release_numbers, after_put}
-use Rattle.office_base.specs.declared.records.ReleaseRow.{ReleaseRow}
+use Rattle.office_sums.proofs.Names.{◌≡◌, ℕ, zero, suc, ◌≤◌, ◌<◌, Bool, true, false, cond, List, [], ◌∷◌, ◌++◌, map, filter, Option, Some, None, Result, Ok, Err, OnOk, OnErr, refl, sym, ap, subst, ◌∙◌, arith, map-append, BTreeMap, is_at, Updates, exact_bytes, tells_apart, nat_cmp_is, nat_list_cmp_total, texts_ties, AllByRecursion, nat_cmp, ordering_then, Equal, Greater, id_cmp, same_id, row_at, holds_of, Tables, IsSorted, release_cmp, release_key, release_numbers, after_put, ReleaseRow, equal_ids, releases_exact, same_itself, releases_total, same_key, IsKeyed, found_key, numbers_to, count_at, CountsReleases, ForgetsNotice}
 use Rattle.office_base.specs.declared.puts.Put.TheVariants as puts
-use Rattle.office_base.proofs.ExactKeys.{equal_ids, releases_exact, same_itself}
-use Rattle.office_base.proofs.Orders.{releases_total, same_key}
-use Rattle.office_base.proofs.RowLaws.Keyed.{IsKeyed, found_key}
 use Rattle.office_sums.proofs.PutLast.{put_last, IsBelow}
 use Rattle.office_sums.proofs.PutRows.{filter-put}
-use Rattle.office_sums.specs.Numbered.{numbers_to, count_at, CountsReleases, ForgetsNotice}
 
 abbrev seq_of : ReleaseRow → ℕ
 seq_of r = r.seq

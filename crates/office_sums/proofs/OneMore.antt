@@ -1,30 +1,7 @@
 -- One more entry of a contract changes the sums of its line by those of the contract.
-use Rattle.std.specs.Prelude.{◌≡◌, ℕ, ◌+◌, ◌≤◌, Bool, true, false, cond, ◌&&◌, List, [], ◌∷◌, map, filter, Some, None}
-use Rattle.std.proofs.Common.{refl, sym, ap, subst, ◌∙◌, arith}
-use Rattle.std.specs.List.{AllByRecursion}
-use Rattle.std.specs.Ordering.{is_eq}
-use Rattle.std.specs.FinMap.{nat_cmp-IsAntisymmetric}
-use Rattle.std.proofs.lemmas.Cmp.{nat_cmp_total}
-use Rattle.office_values.specs.Money.{total_limit}
-use Rattle.office_base.specs.EntryKinds.{is_raise, is_payment, is_less}
-use Rattle.office_base.specs.EntrySums.{sums_with_entry}
-use Rattle.office_base.specs.LineSums.{outstanding_in, paid_in}
-use Rattle.office_base.specs.Sums.{sum_over}
-use Rattle.office_base.specs.Tables.{Tables, IsSorted, entry_cmp, same_number, contract_key, entry_key, find_contract, find_entry, put_entry, after_put}
-use Rattle.office_base.specs.Joined.{plus, minus, contracted, paid, entry_sum, is_on_line, contracts_of_line, sums_of}
-use Rattle.office_base.specs.declared.records.ContractRow.{ContractRow}
-use Rattle.office_base.specs.declared.records.EntryKind.{EntryKind}
-use Rattle.office_base.specs.declared.records.EntryKind.TheVariants.{Raise, Cut, Payment}
-use Rattle.office_base.specs.declared.records.EntryRow.{EntryRow}
-use Rattle.office_base.specs.declared.ledger.ContractSums.{ContractSums}
+use Rattle.office_sums.proofs.Names.{◌≡◌, ℕ, ◌+◌, ◌≤◌, Bool, true, false, cond, ◌&&◌, List, [], ◌∷◌, map, filter, Some, None, refl, sym, ap, subst, ◌∙◌, arith, AllByRecursion, is_eq, nat_cmp-IsAntisymmetric, nat_cmp_total, total_limit, is_raise, is_payment, is_less, sums_with_entry, outstanding_in, paid_in, sum_over, Tables, IsSorted, entry_cmp, same_number, contract_key, entry_key, find_contract, find_entry, put_entry, after_put, plus, minus, contracted, paid, entry_sum, is_on_line, contracts_of_line, sums_of, ContractRow, EntryKind, Raise, Cut, Payment, EntryRow, ContractSums, equal_keys, each_found, found_compares, weight, sum_over-ext, sum_over-plus, sum_over-filter, sum_over-put_new, sum_over-one, AreShifted, AreSums, SumsOfLine}
 use Rattle.office_base.specs.declared.puts.Put.TheVariants as puts
-use Rattle.office_base.proofs.ExactKeys.{equal_keys}
-use Rattle.office_base.proofs.RowLaws.Found.{each_found, found_compares}
-use Rattle.office_base.proofs.SumsOver.{weight, sum_over-ext, sum_over-plus, sum_over-filter, sum_over-put_new, sum_over-one}
 use Rattle.office_sums.proofs.PutAmounts.{numbers_keyed, sums_of-put}
-use Rattle.office_sums.specs.Carried.{AreShifted}
-use Rattle.office_sums.specs.Remembered.{AreSums}
-use Rattle.office_sums.specs.declared.sums.SumsOfLine.{SumsOfLine}
 
 abbrev three : ℕ → ℕ → ℕ → ContractSums
 three a b c = record { gained = a; lost = b; paid = c }

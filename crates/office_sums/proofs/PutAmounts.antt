@@ -1,30 +1,8 @@
 -- One change that doesn't touch a line leaves the amounts that add up to its sums.
-use Rattle.std.specs.Prelude.{◌≡◌, ℕ, ◌+◌, Bool, true, false, cond, ◌&&◌, List, [], ◌∷◌, map, filter, Option, Some, None}
-use Rattle.std.proofs.Common.{refl, sym, ap, ◌∙◌, arith}
-use Rattle.std.specs.List.{AllByRecursion}
-use Rattle.std.specs.Ordering.{nat_cmp, eq_by_cmp}
-use Rattle.std.specs.FinMap.{nat_cmp-IsAntisymmetric}
-use Rattle.std.proofs.lemmas.Cmp.{nat_cmp_total}
-use Rattle.office_base.specs.EntryKinds.{is_raise, is_payment, is_less}
-use Rattle.office_base.specs.Rows.{holds_of}
-use Rattle.office_base.specs.Tables.{Tables, IsSorted, lot_cmp, entry_cmp, same_number, lot_key, contract_key, entry_key, find_lot, put_lot, find_contract, find_entry, put_entry, of_line, after_put}
-use Rattle.office_base.specs.Joined.{entry_sum, is_on_line, sums_of, reservations}
-use Rattle.office_base.specs.declared.records.LotRow.{LotRow}
-use Rattle.office_base.specs.declared.records.ContractRow.{ContractRow}
-use Rattle.office_base.specs.declared.records.EntryKind.{EntryKind}
-use Rattle.office_base.specs.declared.records.EntryRow.{EntryRow}
-use Rattle.office_base.specs.declared.ledger.ContractSums.{ContractSums}
-use Rattle.office_base.specs.declared.puts.Put.{Put}
+use Rattle.office_sums.proofs.Names.{◌≡◌, ℕ, ◌+◌, Bool, true, false, cond, ◌&&◌, List, [], ◌∷◌, map, filter, Option, Some, None, refl, sym, ap, ◌∙◌, arith, AllByRecursion, nat_cmp, eq_by_cmp, nat_cmp-IsAntisymmetric, nat_cmp_total, is_raise, is_payment, is_less, holds_of, Tables, IsSorted, lot_cmp, entry_cmp, same_number, lot_key, contract_key, entry_key, find_lot, put_lot, find_contract, find_entry, put_entry, of_line, after_put, entry_sum, is_on_line, sums_of, reservations, LotRow, ContractRow, EntryKind, EntryRow, ContractSums, Put, lots_exact, entries_exact, equal_keys, lots_total, entries_total, row_at-row_put, each_found, found_compares, IsKeyed, weight, sum_over-put, lines_of_lot, lines_of_contract, touched, IsNoneOf, joined_amounts}
 use Rattle.office_base.specs.declared.puts.Put.TheVariants as puts
-use Rattle.office_base.proofs.ExactKeys.{lots_exact, entries_exact, equal_keys}
-use Rattle.office_base.proofs.Orders.{lots_total, entries_total}
-use Rattle.office_base.proofs.RowLaws.{row_at-row_put}
-use Rattle.office_base.proofs.RowLaws.Found.{each_found, found_compares}
-use Rattle.office_base.proofs.RowLaws.Keyed.{IsKeyed}
-use Rattle.office_base.proofs.SumsOver.{weight, sum_over-put}
 use Rattle.office_sums.proofs.NoneOf.{none_of_first, none_of_second}
 use Rattle.office_sums.proofs.PutRows.{filter-put, filter-ext, map-filter-ext}
-use Rattle.office_sums.specs.Touched.{lines_of_lot, lines_of_contract, touched, IsNoneOf, joined_amounts}
 
 -- a lot that isn't on the line, or that doesn't exist
 pub lot_apart : (line : List ℕ) (lot : Option LotRow) → IsNoneOf line (lines_of_lot lot) → holds_of (of_line line) lot ≡ false

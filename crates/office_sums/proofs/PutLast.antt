@@ -1,12 +1,5 @@
 -- A put row that is above each row that passes a test comes last among these, if it passes too.
-use Rattle.std.specs.Prelude.{◌≡◌, Bool, true, false, cond, List, [], ◌∷◌, ◌++◌, filter}
-use Rattle.std.proofs.Common.{refl, sym, ap, ◌∙◌}
-use Rattle.std.specs.Cmp.{IsTotalOrder}
-use Rattle.std.specs.List.{AllByRecursion}
-use Rattle.std.specs.declared.cmp.Ordering.{Ordering}
-use Rattle.std.specs.declared.cmp.Ordering.TheVariants.{Less, Equal, Greater}
-use Rattle.office_base.specs.Rows.{by_order, row_put, IsInOrder}
-use Rattle.office_base.proofs.RowLaws.Starts.{tied, all_above}
+use Rattle.office_sums.proofs.Names.{◌≡◌, Bool, true, false, cond, List, [], ◌∷◌, ◌++◌, filter, refl, sym, ap, ◌∙◌, IsTotalOrder, AllByRecursion, Ordering, Less, Equal, Greater, by_order, row_put, IsInOrder, tied, all_above}
 
 module _ {K X : Type 0} {R : K → K → Ordering} (o : IsTotalOrder R) (key : X → K) (p : X → Bool) (r : X) where
   -- a row that passes is below the put one

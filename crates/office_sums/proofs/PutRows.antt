@@ -1,10 +1,5 @@
 -- The rows that pass a test stay if a put row fails the test and replaces none or one that fails it.
-use Rattle.std.specs.Prelude.{◌≡◌, Bool, true, false, cond, List, [], ◌∷◌, map, filter, Some, None}
-use Rattle.std.proofs.Common.{refl, sym, ap, ◌∙◌}
-use Rattle.std.specs.List.{AllByRecursion}
-use Rattle.std.specs.declared.cmp.Ordering.{Ordering}
-use Rattle.std.specs.declared.cmp.Ordering.TheVariants.{Less, Equal, Greater}
-use Rattle.office_base.specs.Rows.{by_order, row_at, row_put, holds_of}
+use Rattle.office_sums.proofs.Names.{◌≡◌, Bool, true, false, cond, List, [], ◌∷◌, map, filter, Some, None, refl, sym, ap, ◌∙◌, AllByRecursion, Ordering, Less, Equal, Greater, by_order, row_at, row_put, holds_of}
 
 module _ {K X : Type 0} (R : K → K → Ordering) (key : X → K) (p : X → Bool) where
   put_step : (x : X) (xs : List X) (r : X) → p r ≡ false

@@ -1,19 +1,6 @@
 -- The sums of lines that a change doesn't touch stay.
-use Rattle.std.specs.Prelude.{◌≡◌, ℕ, ◌≤◌, List, [], ◌∷◌, map}
-use Rattle.std.proofs.Common.{sym, ap, subst, ◌∙◌}
-use Rattle.std.specs.List.{AllByRecursion}
-use Rattle.office_values.specs.Money.{total_limit}
-use Rattle.office_base.specs.Sums.{sum_over}
-use Rattle.office_base.specs.Tables.{Tables, after_put}
-use Rattle.office_base.specs.Joined.{plus, minus, reserved, contracted, paid, contracts_of_line, sums_of, LineFits}
-use Rattle.office_base.specs.LineSums.{outstanding_in, paid_in}
-use Rattle.office_base.specs.declared.records.ContractRow.{ContractRow}
-use Rattle.office_base.specs.declared.ledger.ContractSums.{ContractSums}
-use Rattle.office_base.specs.declared.ledger.LineAmounts.{LineAmounts}
-use Rattle.office_base.proofs.SumsOver.{sum_over-map}
+use Rattle.office_sums.proofs.Names.{◌≡◌, ℕ, ◌≤◌, List, [], ◌∷◌, map, sym, ap, subst, ◌∙◌, AllByRecursion, total_limit, sum_over, Tables, after_put, plus, minus, reserved, contracted, paid, contracts_of_line, sums_of, LineFits, outstanding_in, paid_in, ContractRow, ContractSums, LineAmounts, sum_over-map, joined_amounts, SumsStay}
 use Rattle.office_sums.proofs.PutAmounts.{amounts-put}
-use Rattle.office_sums.specs.Touched.{joined_amounts}
-use Rattle.office_sums.specs.Remembered.{SumsStay}
 
 -- a sum over contracts is a sum over their sums
 by_sums : (t : Tables) (f : ContractSums → ℕ) (cs : List ContractRow) → sum_over (λ m. m) (map (λ c. f (sums_of t.entries c)) cs) ≡ sum_over f (map (sums_of t.entries) cs)

@@ -1,18 +1,6 @@
 -- An answer over the last commit is an answer over the content that this commit holds.
-use Rattle.std.proofs.Common.{◌≡◌, ◌⊎◌, inl, inr, ℕ, List, [], ◌∷◌, map, slice_get, Option, Some, ap, Result, Ok, Err, true, IsTrue, sym, subst, ◌∙◌}
-use Rattle.std.specs.Prelude.{◌≤◌, IfOk, IfErr, OnOk, option_map}
-use Rattle.sqlite_value.specs.Order.{Row}
-use Rattle.sqlite_trees.specs.declared.store.Store.{Ghosts}
-use Rattle.sqlite.specs.Effect.{Database}
-use Rattle.sqlite.specs.Held.{Held, state}
-use Rattle.sqlite.specs.declared.error.Error.{Error}
-use Rattle.sqlite.specs.State.{State, HasCleanDisk, Shown, FailsToQuery, IsTooLate}
-use Rattle.office_base.specs.Faults.{IsFaultOf}
-use Rattle.office_base.specs.declared.shelf.ShelfFault.{ShelfFault}
-use Rattle.office_base.specs.Tables.{Tables}
-use Rattle.office_tables.specs.Failing.{IsUnread}
-use Rattle.office_tables.specs.Standing.{Holds}
-use Rattle.office_tables.specs.Steps.{IsAsked, IsRefusal, IsRefusedBy, ShowsTables, Tells, FindsPart}
+use Rattle.office_tables.proofs.Names.{◌≡◌, ◌⊎◌, inl, inr, ℕ, List, [], ◌∷◌, map, slice_get, Option, Some, ap, Result, Ok, Err, true, IsTrue, sym, subst, ◌∙◌, ◌≤◌, IfOk, IfErr, OnOk, option_map, Row, Ghosts, Database, Held, state, Error, HasCleanDisk, FailsToQuery, IsTooLate, IsFaultOf, ShelfFault, Tables, IsUnread, Holds, IsAsked, IsRefusal, IsRefusedBy, ShowsTables, Tells, FindsPart}
+use Rattle.sqlite.specs.State.{State, Shown}
 
 pub asked : {S : Type 0} (g : Ghosts S) (sql : List ℕ) (params : Row) (old : Held S) (rows : List Row) (t : Tables) (Q : Type 0) → IsAsked g sql params old rows → ShowsTables (state g old) t
     → ((before after : State) → Holds before.now t → Shown sql params before after rows → Q) → Q

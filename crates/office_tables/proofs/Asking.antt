@@ -1,28 +1,9 @@
 -- The rows that a select over one table of the office shows.
-use Rattle.std.proofs.Common.{◌≡◌, ℕ, Bool, true, false, cond, List, [], ◌∷◌, map, filter, slice_get, option_map, Some, None, refl, sym, ap, ap₂, subst, ◌∙◌, Ordering, Less, Equal, Greater}
-use Rattle.std.specs.Prelude.{nat_le, ◌^◌, unwrap_or, take}
-use Rattle.std.specs.List.Sorted.{IsPermutation}
-use Rattle.std.proofs.lemmas.List.{take-map}
-use Rattle.std.specs.Cmp.{IsTotalOrder, tied_itself}
-use Rattle.std.specs.FinMap.{IsAntisymmetric}
-use Rattle.std.specs.List.{AllByRecursion, list_all}
-use Rattle.std.specs.Ordering.{is_eq, is_lt, eq_by_cmp}
-use Rattle.sqlite_value.specs.declared.value.Value.{Value}
-use Rattle.sqlite_value.specs.declared.value.Value.TheVariants.{Null}
-use Rattle.sqlite_value.specs.Order.{Row}
-use Rattle.sqlite_sql.specs.Term.{Term, eval, holds}
-use Rattle.sqlite_sql.specs.Query.{Query, Output, as_count, limited, output, output_cmp}
+use Rattle.office_tables.proofs.Names.{◌≡◌, ℕ, Bool, true, false, cond, List, [], ◌∷◌, map, filter, slice_get, option_map, Some, None, refl, sym, ap, ap₂, subst, ◌∙◌, Ordering, Less, Equal, Greater, nat_le, ◌^◌, unwrap_or, take, IsPermutation, take-map, IsTotalOrder, tied_itself, IsAntisymmetric, AllByRecursion, list_all, is_eq, is_lt, eq_by_cmp, Value, Null, Row, Term, eval, holds, Query, as_count, limited, output, output_cmp, Trees, rowid, overlay, Answers, reads_as, by_order, IsInOrder, equal_keys, all_above, all_filter, Stand}
+use Rattle.sqlite_sql.specs.Query.{Output}
 use Rattle.sqlite_schema.specs.declared.command.Command.TheVariants.{Select}
-use Rattle.sqlite_trees.specs.Tree.{Trees, rowid}
-use Rattle.sqlite.specs.Program.{overlay}
 use Rattle.sqlite.specs.State.{State, Shown}
-use Rattle.sqlite.specs.Effect.{Answers}
-use Rattle.sqlite.proofs.Callers.{reads_as}
-use Rattle.office_base.specs.Rows.{by_order, row_at, IsInOrder}
-use Rattle.office_base.proofs.ExactKeys.{equal_keys}
-use Rattle.office_base.proofs.RowLaws.Starts.{all_above}
-use Rattle.office_base.proofs.RowLaws.Filters.{all_filter}
-use Rattle.office_tables.specs.Kept.{Stand}
+use Rattle.office_base.specs.Rows.{row_at}
 use Rattle.office_tables.proofs.KeptRows.{in_order-rows_kept}
 use Rattle.office_tables.proofs.Selected.{selects, comes_back, picked, passes_query}
 use Rattle.office_tables.proofs.Selected.{lists as all_in_order}

@@ -1,27 +1,7 @@
 -- Values of columns: what a cast keeps, when two are equal, and how they are ordered.
-use Rattle.std.proofs.Common.{◌≡◌, inl, inr, ℕ, ℤ, pos, Bool, true, false, ◌&&◌, cond, List, Option, Some, None, refl, sym, ap, ap₂, ◌∙◌, arith, Ordering, Less, Equal, Greater, true≢false}
-use Rattle.std.proofs.lemmas.Bool.{cases_Bool}
-use Rattle.std.proofs.lemmas.Bool.Decides.{nat_tests}
-use Rattle.std.specs.Ordering.{is_eq, is_lt, is_gt, nat_cmp, int_cmp, ordering_then, ordering_reverse, eq_by_cmp}
-use Rattle.std.specs.Cmp.{tied_itself, nat_cmp_total}
-use Rattle.std.specs.Cmp.Lexicographic.{nat_list_cmp_total}
-use Rattle.std.specs.FinMap.{nat_cmp-IsAntisymmetric}
-use Rattle.sqlite_value.specs.declared.value.Value.{Value}
-use Rattle.sqlite_value.specs.declared.value.Value.TheVariants.{Null, Int, Text}
-use Rattle.sqlite_value.specs.declared.keys.Collation.TheVariants.{Binary}
-use Rattle.sqlite_value.specs.Order.{value_cmp}
-use Rattle.sqlite_value.proofs.OrderLemmas.{value_cmp-Text, value_cmp-Int}
-use Rattle.sqlite_sql.specs.Ops.{binary, unary, is_true, from_truth}
+use Rattle.office_tables.proofs.Names.{◌≡◌, inl, inr, ℕ, ℤ, pos, Bool, true, false, ◌&&◌, cond, List, Option, Some, None, refl, sym, ap, ap₂, ◌∙◌, arith, Ordering, Less, Equal, Greater, true≢false, cases_Bool, nat_tests, is_eq, is_lt, is_gt, nat_cmp, int_cmp, ordering_then, ordering_reverse, eq_by_cmp, tied_itself, nat_cmp_total, nat_list_cmp_total, nat_cmp-IsAntisymmetric, Value, Null, Int, Text, Binary, value_cmp, value_cmp-Text, value_cmp-Int, binary, unary, is_true, from_truth, Gt, equal, Integer, cast, id_cmp, same_id, same_number, ids_exact, equal_ids, same_itself, equal_from_test, or_null, text_or_null}
 use Rattle.sqlite_sql.specs.declared.ops.BinaryOp.TheVariants as by
-use Rattle.sqlite_sql.specs.declared.ops.CompareOp.TheVariants.{Gt}
-use Rattle.sqlite_schema.specs.Rules.{equal}
-use Rattle.sqlite_schema.specs.declared.schema.Kind.TheVariants.{Integer, Text as AsText}
-use Rattle.sqlite_rules.specs.Cast.{cast}
-use Rattle.office_values.specs.Ids.{id_cmp, same_id}
-use Rattle.office_base.specs.Tables.{same_number}
-use Rattle.office_base.proofs.ExactKeys.{ids_exact, equal_ids, same_itself}
-use Rattle.office_base.proofs.Orders.{equal_from_test}
-use Rattle.office_tables.specs.Values.{or_null, text_or_null}
+use Rattle.sqlite_schema.specs.declared.schema.Kind.TheVariants.{Text as AsText}
 
 either : (b : Bool) (x : Value) → cond b x x ≡ x
 either true x = refl

@@ -1,22 +1,6 @@
 -- A write changes no table whose foreign keys don't lead to the written table, whatever actions the foreign keys of other tables cause.
-use Rattle.std.proofs.Common.{◌≡◌, ◌≢◌, inl, inr, ℕ, zero, suc, Bool, true, false, List, [], ◌∷◌, ◌++◌, Option, Some, None, Ok, Err, Result, refl, sym, ap, subst, ◌∙◌, cond, ◌&&◌, nat_lt, ◌+◌, ℤ, true≢false}
-use Rattle.std.specs.Prelude.{◌==◌, length, flat_map, filter_map}
-use Rattle.std.specs.List.{AllByRecursion, list_any, cons_option}
-use Rattle.std.proofs.lemmas.Bool.{cases_Bool, eqb-true, eq-eqb, MatchBool-at_true, MatchBool-at_false}
-use Rattle.sqlite_value.specs.Order.{Row}
-use Rattle.sqlite_trees.specs.Tree.{Trees}
-use Rattle.sqlite_schema.specs.declared.schema.Keys.{Keys}
-use Rattle.sqlite_schema.specs.declared.schema.Reference.{Reference}
-use Rattle.sqlite_schema.specs.declared.schema.Table.{Table}
-use Rattle.sqlite_schema.specs.declared.schema.Schema.{Schema}
-use Rattle.sqlite_schema.specs.Rules.{ParentKey, parent_key}
-use Rattle.sqlite_rules.specs.declared.error.Refusal.{Refusal}
-use Rattle.sqlite_rules.specs.declared.action.Deed.{Deed}
-use Rattle.sqlite_rules.specs.Lists.{Has}
-use Rattle.sqlite_rules.specs.Edit.{Edit, Applies, taken_by}
-use Rattle.sqlite_rules.specs.Action.{Work, work_by, work_for, works, loses, pairs, deed_for, refuses, max_depth, Goes, Acts, ActsOn, Leads, Writes, action_edit}
-use Rattle.sqlite_rules.proofs.ListLemmas.{all_has}
-use Rattle.office_tables.specs.Apart.{LeadsInside, KeepsMarked}
+use Rattle.office_tables.proofs.Names.{◌≡◌, ◌≢◌, inl, inr, ℕ, zero, suc, Bool, true, false, List, [], ◌∷◌, ◌++◌, Option, Some, None, Ok, Err, Result, refl, sym, ap, subst, ◌∙◌, cond, ◌&&◌, nat_lt, ◌+◌, ℤ, true≢false, ◌==◌, length, flat_map, filter_map, AllByRecursion, list_any, cons_option, cases_Bool, eqb-true, eq-eqb, MatchBool-at_true, MatchBool-at_false, Row, Trees, Keys, Reference, Table, Schema, ParentKey, parent_key, Refusal, Deed, Has, Edit, Applies, taken_by, Work, work_by, work_for, works, loses, pairs, deed_for, refuses, max_depth, Acts, ActsOn, Leads, action_edit, all_has, LeadsInside, KeepsMarked}
+use Rattle.sqlite_rules.specs.Action.{Goes, Writes}
 
 -- some table has this tree, and no table with this tree has a foreign key
 pub record IsOwn (schema : Schema) (n : ℕ) : Type 0 where

@@ -1,28 +1,13 @@
 -- A text that creates a table or an index does so in every schema that understands it.
-use Rattle.std.proofs.Common.{◌≡◌, inl, inr, [], ◌+◌, ◌==◌, ◌&&◌, not, List, Ok, Err, None, Some, Option, refl, false, true, Bool, cond, ℕ, length, ap, sym, subst, ◌∙◌}
-use Rattle.std.specs.Prelude.{slice_range, is_some}
-use Rattle.std.specs.Option.{option_or}
-use Rattle.std.proofs.lemmas.Bool.{cases_Bool}
-use Rattle.sqlite_schema.specs.declared.schema.Schema.{Schema}
-use Rattle.sqlite_schema.specs.declared.schema.Table.{Table}
-use Rattle.sqlite_schema.specs.declared.schema.Index.{Index}
-use Rattle.sqlite_schema.specs.declared.command.Command.{Command}
+use Rattle.office_tables.proofs.Names.{◌≡◌, inl, inr, [], ◌+◌, ◌==◌, ◌&&◌, not, List, Ok, Err, None, Some, Option, refl, false, true, Bool, cond, ℕ, length, ap, sym, subst, ◌∙◌, slice_range, is_some, option_or, cases_Bool, Schema, Table, Index, Command, table_named, index_named, view_named, Parsed, CompileError, NoSuchTable, Misuse, Exists, Unsupported, Checked, and_then, first, planned, meaning, returning, small, create_table, create_index, is_reserved, is_attached, with_command, table_in, table_defined_by, index_in, index_defined_by, understood, listing_schema, misses_table, if_select, is_select, IsIn, at_tree, Says, IsCreate, IsIndexing}
 use Rattle.sqlite_schema.specs.declared.command.Command.TheVariants as command
-use Rattle.sqlite_schema.specs.Names.{table_named, index_named, view_named}
 use Rattle.sqlite_ast.specs.declared.CreateTable.{CreateTable}
 use Rattle.sqlite_ast.specs.declared.CreateIndex.{CreateIndex}
 use Rattle.sqlite_ast.specs.declared.Statement.TheVariants as written
-use Rattle.sqlite_syntax.specs.declared.statement.Parsed.{Parsed}
-use Rattle.sqlite_resolve.specs.declared.error.CompileError.{CompileError}
-use Rattle.sqlite_resolve.specs.declared.error.CompileError.TheVariants.{NoSuchTable, Misuse, Exists, Unsupported}
 use Rattle.sqlite_resolve.specs.declared.compiled.Compiled.{Compiled}
-use Rattle.sqlite_resolve.specs.Lowering.{Checked, and_then}
-use Rattle.sqlite_resolve.specs.Compile.{first, compiled, planned, meaning, timed, returning, small, create_table, create_index, creates, is_reserved, is_attached, with_command, table_in, table_defined_by, index_in, index_defined_by}
+use Rattle.sqlite_resolve.specs.Compile.{compiled, timed, creates}
 use Rattle.sqlite_resolve.specs.Compile as compile
 use Rattle.sqlite_resolve.specs.Define as define
-use Rattle.sqlite.specs.Listing.{understood, listing_schema, misses_table, if_select, is_select}
-use Rattle.office_tables.specs.Known.{IsIn, at_tree}
-use Rattle.office_tables.specs.Making.{Says, IsCreate, IsIndexing}
 
 -- the parts that the grammar finds in the text of a table
 pub record ReadsTable (text : List ℕ) (table : Table) (p : Parsed) : Type 0 where

@@ -1,22 +1,12 @@
 -- DELETE of the rows of one key, under a schema of which only its table is known.
-use Rattle.std.proofs.Common.{◌≡◌, ◌∷◌, [], ◌+◌, List, Ok, None, Option, refl, ℕ, true}
-use Rattle.sqlite_schema.specs.declared.schema.Schema.{Schema}
-use Rattle.sqlite_schema.specs.declared.schema.Table.{Table}
-use Rattle.sqlite_schema.specs.declared.command.Command.TheVariants.{Delete}
-use Rattle.sqlite_schema.specs.declared.program.Program.{Program}
-use Rattle.sqlite_ast.specs.declared.Expr.{Expr}
+use Rattle.office_tables.proofs.Names.{◌≡◌, ◌∷◌, [], ◌+◌, List, Ok, None, Option, refl, ℕ, true, Schema, Table, Delete, Program, Expr, Parsed, Carried, max_budget, lower, first, planned, meaning, returning, shows, command, delete, small, accepts_program, IsIn, at_tree}
 use Rattle.sqlite_ast.specs.declared.Statement.TheVariants as written
-use Rattle.sqlite_syntax.specs.declared.statement.Parsed.{Parsed}
 use Rattle.sqlite_resolve.specs.declared.compiled.Compiled.{Compiled}
-use Rattle.sqlite_resolve.specs.declared.state.Carried.{Carried}
-use Rattle.sqlite_resolve.specs.Lowering.{nothing, max_budget}
-use Rattle.sqlite_resolve.specs.Expr.{lower}
+use Rattle.sqlite_resolve.specs.Lowering.{nothing}
 use Rattle.sqlite_resolve.specs.Body as body
 use Rattle.sqlite_resolve.specs.Program as program
 use Rattle.sqlite_resolve.specs.Write as write
-use Rattle.sqlite_resolve.specs.Compile.{first, compiled, planned, meaning, timed, returning, shows, command, delete, small}
-use Rattle.sqlite_typing.specs.Types.{accepts_program}
-use Rattle.office_tables.specs.Known.{IsIn, at_tree}
+use Rattle.sqlite_resolve.specs.Compile.{compiled, timed}
 use Rattle.office_tables.proofs.Whole.{at_budget}
 use Rattle.office_tables.proofs.Simple.{scope}
 use Rattle.office_tables.proofs.Meanings.{StatementMeans, means_by}

@@ -1,32 +1,6 @@
 -- DELETE of the record of one key from one table of the office.
-use Rattle.std.proofs.Common.{◌≡◌, ◌∷◌, [], List, Ok, None, refl, sym, ap, subst, ◌∙◌, ℕ, map, Ordering}
-use Rattle.std.specs.List.{list_all}
-use Rattle.std.specs.Ordering.{eq_by_cmp}
-use Rattle.sqlite_value.specs.declared.value.Value.{Value}
-use Rattle.sqlite_value.specs.declared.value.Value.TheVariants.{Null}
-use Rattle.sqlite_value.specs.Order.{Row}
-use Rattle.sqlite_trees.specs.Tree.{Trees, rowid}
-use Rattle.sqlite_sql.specs.Term.{holds}
-use Rattle.sqlite_sql.specs.Query.{output}
-use Rattle.sqlite_schema.specs.declared.schema.Keys.TheVariants.{Enforced}
-use Rattle.sqlite_schema.specs.declared.schema.Table.{Table}
-use Rattle.sqlite_schema.specs.declared.command.Command.TheVariants.{Delete}
-use Rattle.sqlite_rules.specs.declared.error.Rowids.TheVariants.{Given}
-use Rattle.sqlite_rules.specs.Edit.{edit_of, without_all}
-use Rattle.std.specs.List.Sorted.{IsPermutation}
-use Rattle.sqlite_rules.specs.Calls.{ids_of}
-use Rattle.sqlite_rules.specs.Lists.{Has}
-use Rattle.sqlite_rules.proofs.ListLemmas.{all_has}
-use Rattle.sqlite.specs.Effect.{Database, IsDatabase, Answers}
-use Rattle.sqlite.specs.Rows.{Task, Written, Deletes}
-use Rattle.sqlite.specs.Does.{Tally, AtPlace, OnRows}
-use Rattle.sqlite.specs.State.{State, mode_of, Executes}
-use Rattle.sqlite.proofs.Callers.{runs_as}
-use Rattle.office_base.specs.Rows.{row_drop}
-use Rattle.office_tables.specs.Forms.{Form}
-use Rattle.office_tables.specs.Kept.{key_of, Stand}
-use Rattle.office_tables.specs.Schema.{OfficeTable, table_of}
-use Rattle.office_tables.specs.Known.{at_tree, Places, HasTables}
+use Rattle.office_tables.proofs.Names.{◌≡◌, ◌∷◌, [], List, Ok, None, refl, sym, ap, subst, ◌∙◌, ℕ, map, Ordering, list_all, eq_by_cmp, Value, Null, Row, Trees, rowid, holds, output, Enforced, Table, Delete, Given, edit_of, without_all, IsPermutation, ids_of, Has, all_has, Database, IsDatabase, Answers, Task, Written, Deletes, Tally, AtPlace, OnRows, mode_of, Executes, runs_as, row_drop, Form, key_of, Stand, OfficeTable, table_of, at_tree, Places, HasTables}
+use Rattle.sqlite.specs.State.{State}
 use Rattle.office_tables.proofs.Childless.{IsOwn, writes, spared_own}
 use Rattle.office_tables.proofs.Upserted.{went, same_value}
 use Rattle.office_tables.proofs.Selected.{picked, passes_query}

@@ -1,44 +1,10 @@
 -- Each table of an office, and each change.
-use Rattle.std.proofs.Common.{◌≡◌, List, ℕ, [], ◌∷◌, Ok, Some, length, slice_get, pos, true, false, refl, sym, subst, ◌∙◌}
-use Rattle.std.specs.Prelude.{bytes_eq}
-use Rattle.std.specs.List.{AllByRecursion, position_or_len}
-use Rattle.std.specs.declared.cmp.Ordering.{Ordering}
-use Rattle.sqlite_value.specs.declared.value.Value.{Value}
-use Rattle.sqlite_value.specs.declared.value.Value.TheVariants.{Int}
-use Rattle.sqlite_value.specs.Order.{Row}
-use Rattle.sqlite_schema.specs.declared.command.Command.{Command}
-use Rattle.sqlite_rules.specs.Lists.{Has}
-use Rattle.sqlite_rules.proofs.ListLemmas.{all_has}
-use Rattle.sqlite_catalog.proofs.AlterLemmas.{place_has}
-use Rattle.sqlite.specs.Effect.{Database}
-use Rattle.sqlite.specs.State.{State, Executes, ExecutesInside}
-use Rattle.office_base.specs.Tables.{Tables, no_tables, after_put}
-use Rattle.office_base.specs.declared.puts.Put.{Put}
+use Rattle.office_tables.proofs.Names.{◌≡◌, List, ℕ, [], ◌∷◌, Ok, Some, length, slice_get, pos, true, false, refl, sym, subst, ◌∙◌, bytes_eq, AllByRecursion, position_or_len, Ordering, Value, Int, Row, Command, Has, all_has, place_has, Database, Executes, ExecutesInside, Tables, no_tables, after_put, Put, ClockRow, Form, RowsStand, Stand, IsIn, Places, HasTables, OfficeTable, table_of, all_tables, StandFor, ComeBack, values_of_put, IsReadBack, Stands, line_form, batch_form, tenderer_form, notice_form, lot_form, envelope_form, delete_seal, seal_form, security_form, award_form, contract_form, entry_form, release_form, compiled_form, clock_form, late_form, performance_form, Lines, Batches, Tenderers, Notices, Lots, Envelopes, Seals, Securities, Awards, Contracts, Entries, Releases, Office, LateRules, FormerNotices, Performances}
+use Rattle.sqlite.specs.State.{State}
 use Rattle.office_base.specs.declared.puts.Put.TheVariants as put
-use Rattle.office_base.specs.declared.records.ClockRow.{ClockRow}
-use Rattle.office_tables.specs.Forms.{Form, RowsStand}
-use Rattle.office_tables.specs.Kept.{Stand}
-use Rattle.office_tables.specs.Known.{IsIn, Places, HasTables}
-use Rattle.office_tables.specs.Schema.{OfficeTable, table_of, all_tables, StandFor, ComeBack, statement_of, values_of_put, IsReadBack}
-use Rattle.office_tables.specs.Standing.{Stands}
+use Rattle.office_tables.specs.Schema.{statement_of}
 use Rattle.office_tables.specs.Steps.{Puts}
-use Rattle.office_tables.specs.Tables.Lines.{line_form}
-use Rattle.office_tables.specs.Tables.Batches.{batch_form}
-use Rattle.office_tables.specs.Tables.Tenderers.{tenderer_form}
-use Rattle.office_tables.specs.Tables.Notices.{notice_form}
-use Rattle.office_tables.specs.Tables.Lots.{lot_form}
-use Rattle.office_tables.specs.Tables.Envelopes.{envelope_form}
-use Rattle.office_tables.specs.Tables.Seals.{delete_seal, seal_form}
-use Rattle.office_tables.specs.Tables.Securities.{security_form}
-use Rattle.office_tables.specs.Tables.Awards.{award_form}
-use Rattle.office_tables.specs.Tables.Contracts.{contract_form}
-use Rattle.office_tables.specs.Tables.Entries.{entry_form}
-use Rattle.office_tables.specs.Tables.Releases.{release_form}
-use Rattle.office_tables.specs.Tables.Compiled.{compiled_form}
-use Rattle.office_tables.specs.Tables.Office.{clock_form}
-use Rattle.office_tables.specs.Tables.LateRules.{late_form}
-use Rattle.office_tables.specs.Tables.Performances.{performance_form}
-use Rattle.office_tables.specs.Schema.OfficeTable.{Lines, Batches, Tenderers, Notices, Lots, Envelopes, Seals, Securities, Awards, Contracts, Entries, Releases, Compiled, Office, LateRules, FormerNotices, Performances}
+use Rattle.office_tables.specs.Schema.OfficeTable.{Compiled}
 use Rattle.office_tables.proofs.Cells.{and_true, number_tested, same_number_is}
 use Rattle.office_tables.proofs.Drops.{drops_row}
 use Rattle.office_tables.proofs.Held.{holds_put, goes_with}

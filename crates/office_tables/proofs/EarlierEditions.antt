@@ -1,52 +1,11 @@
 -- An office of an earlier edition: its version, which tables it has, and the first half of its migration.
-use Rattle.std.proofs.Common.{◌≡◌, ◌⊎◌, inl, inr, ℕ, zero, suc, Bool, List, [], ◌∷◌, Option, None, Some, map, append-nil, true, false, refl, ap, sym, subst, ◌∙◌, true≢false, arith, IsTrue}
-use Rattle.std.specs.Prelude.{option_map, codes, is_some, nat_lt}
-use Rattle.std.proofs.lemmas.Bool.{ltb-true, le-ltb}
-use Rattle.std.specs.List.{AllByRecursion}
-use Rattle.std.specs.declared.cmp.Ordering.{Ordering}
-use Rattle.sqlite_value.specs.declared.value.Value.{Value}
-use Rattle.sqlite_value.specs.Order.{Row, column}
-use Rattle.sqlite_trees.specs.Tree.{rowid, Trees}
-use Rattle.sqlite_trees.specs.View.{is_int}
-use Rattle.sqlite_schema.specs.Names.{same_name}
-use Rattle.sqlite_schema.specs.declared.schema.Schema.{Schema}
-use Rattle.sqlite_schema.specs.declared.schema.Table.{Table}
-use Rattle.sqlite_schema.specs.declared.command.Command.TheVariants.{Delete}
+use Rattle.office_tables.proofs.Names.{◌≡◌, ◌⊎◌, inl, inr, ℕ, zero, suc, Bool, List, [], ◌∷◌, Option, None, Some, map, append-nil, true, false, refl, ap, sym, subst, ◌∙◌, true≢false, arith, IsTrue, option_map, codes, is_some, nat_lt, ltb-true, le-ltb, AllByRecursion, Ordering, Value, Row, rowid, Trees, is_int, same_name, Schema, Table, Delete, max_budget, Has, all_has, everything, Ghosts, Database, IsDatabase, Held, state, nat_list_cmp_total, id_cmp, row_put, IsInOrder, Tables, notice_key, ids_exact, all-put, ClockRow, NoticeRow, this_version, office, clock_values, clock_read, upsert_office, clock_form, clock_form_of, former_read, former_notices, former_form, AddsNoReference, LeadsInside, had_former, former_part, besides_former, FormerStand, StandForEdition, StandsOrMissing, HoldsEdition, changed_where, IsMigrated, MakesMissing, drop_notices, drop_version, DropsFormer, Renews, Begins, lacks_table, version_of, edition_of, has_late, Stand, IsIn, Places, HasTables, at_tree, KnowsNoPerformances, AreMade, KeepsOffice, OfficeTable, table_of, StandFor, Stands, Holds, Refused, number_in_value, HasVersion, RowsStand, FormerClock, FormerNotice, Notices, LateRules, FormerNotices, Performances, Office}
+use Rattle.sqlite_value.specs.Order.{column}
 use Rattle.sqlite_resolve.specs.Compile.{first as parsed}
-use Rattle.sqlite_resolve.specs.Lowering.{nothing, max_budget}
-use Rattle.sqlite_rules.specs.Lists.{Has}
-use Rattle.sqlite_rules.proofs.ListLemmas.{all_has}
-use Rattle.sqlite_tied.specs.Compute.{everything}
-use Rattle.sqlite_trees.specs.declared.store.Store.{Ghosts}
-use Rattle.sqlite.specs.Effect.{Database, IsDatabase}
-use Rattle.sqlite.specs.Held.{Held, state}
+use Rattle.sqlite_resolve.specs.Lowering.{nothing}
 use Rattle.sqlite.specs.State.{State}
-use Rattle.std.specs.Cmp.Lexicographic.{nat_list_cmp_total}
-use Rattle.office_values.specs.Ids.{id_cmp}
-use Rattle.office_base.specs.Rows.{row_put, IsInOrder}
-use Rattle.office_base.specs.Tables.{Tables, notice_key}
-use Rattle.office_base.proofs.ExactKeys.{ids_exact}
-use Rattle.office_base.proofs.RowLaws.{all-put}
-use Rattle.office_base.specs.declared.records.ClockRow.{ClockRow}
-use Rattle.office_base.specs.declared.records.NoticeRow.{NoticeRow}
-use Rattle.office_tables.specs.Tables.Office.{this_version, office, clock_values, clock_read, upsert_office, clock_form, clock_form_of}
-use Rattle.office_tables.specs.Tables.Notices.{former_read, former_notices, former_form}
-use Rattle.office_tables.specs.Apart.{AddsNoReference, LeadsInside}
-use Rattle.office_tables.specs.Earlier.{had_former, former_part, besides_former, FormerStand, StandForEdition, StandsOrMissing, HoldsEdition, changed_where, IsMigrated, MakesMissing, drop_notices, drop_version, DropsFormer, Renews, Begins}
-use Rattle.office_tables.specs.Editions.{lacks_table, version_of, edition_of, has_late}
-use Rattle.office_tables.specs.Kept.{rows_kept as records_of, Stand}
-use Rattle.office_tables.specs.Known.{IsIn, Places, HasTables, at_tree}
-use Rattle.office_tables.specs.Laws.{KnowsNoPerformances}
-use Rattle.office_tables.specs.Making.{AreMade, KeepsOffice}
-use Rattle.office_tables.specs.Schema.{OfficeTable, table_of, StandFor}
-use Rattle.office_tables.specs.Standing.{Stands, Holds}
-use Rattle.office_tables.specs.Steps.{Goes, Refused}
-use Rattle.office_tables.specs.Values.{number_in_value}
-use Rattle.office_tables.specs.Version.{HasVersion}
-use Rattle.office_tables.specs.Forms.{RowsStand}
-use Rattle.office_tables.specs.declared.tables.office.FormerClock.{FormerClock}
-use Rattle.office_tables.specs.declared.tables.notices.FormerNotice.{FormerNotice}
-use Rattle.office_tables.specs.Schema.OfficeTable.{Notices, LateRules, FormerNotices, Performances, Office}
+use Rattle.office_tables.specs.Kept.{rows_kept as records_of}
+use Rattle.office_tables.specs.Steps.{Goes}
 use Rattle.office_tables.proofs.Deletes.{IsDelete, delete_means}
 use Rattle.office_tables.proofs.Emptied.{empties}
 use Rattle.office_tables.proofs.Held.{goes_on}

@@ -1,28 +1,7 @@
 -- DELETE of all rows of one table of the office.
-use Rattle.std.proofs.Common.{◌≡◌, inl, Bool, true, List, [], ◌∷◌, map, Ok, None, refl, sym, ap, subst, ◌∙◌, ℕ, true≢false}
-use Rattle.std.specs.List.Sorted.{IsPermutation}
-use Rattle.std.proofs.lemmas.List.Sorted.{IsPermutation-sym}
-use Rattle.sqlite_value.specs.declared.value.Value.TheVariants.{Null}
-use Rattle.sqlite_value.specs.Order.{Row}
-use Rattle.sqlite_trees.specs.Tree.{Trees, rowid}
-use Rattle.sqlite_trees.specs.View.{is_int}
-use Rattle.sqlite_sql.specs.Query.{Output, output}
-use Rattle.sqlite_sql.specs.Term.{Env}
-use Rattle.sqlite_schema.specs.declared.schema.Keys.TheVariants.{Enforced}
-use Rattle.sqlite_schema.specs.declared.schema.Table.{Table}
-use Rattle.sqlite_schema.specs.declared.command.Command.TheVariants.{Delete}
-use Rattle.sqlite_rules.specs.declared.error.Rowids.TheVariants.{Given}
-use Rattle.sqlite_rules.specs.Edit.{edit_of, id_in, without_all}
-use Rattle.sqlite_rules.specs.Calls.{ids_of}
-use Rattle.sqlite_rules.specs.Lists.{Has}
-use Rattle.sqlite_rules.proofs.ProbeLemmas.{mapped_has}
-use Rattle.sqlite.specs.Effect.{Database, IsDatabase, Answers}
-use Rattle.sqlite.specs.Rows.{Task, Written, Deletes}
-use Rattle.sqlite.specs.Does.{Tally, AtPlace, OnRows}
-use Rattle.sqlite.specs.State.{State, mode_of, Executes}
-use Rattle.sqlite.proofs.Callers.{runs_as}
-use Rattle.office_tables.specs.Schema.{OfficeTable, table_of}
-use Rattle.office_tables.specs.Known.{at_tree, Places, HasTables}
+use Rattle.office_tables.proofs.Names.{◌≡◌, inl, Bool, true, List, [], ◌∷◌, map, Ok, None, refl, sym, ap, subst, ◌∙◌, ℕ, true≢false, IsPermutation, IsPermutation-sym, Null, Row, Trees, rowid, is_int, output, Env, Enforced, Table, Delete, Given, edit_of, id_in, without_all, ids_of, Has, mapped_has, Database, IsDatabase, Answers, Task, Written, Deletes, Tally, AtPlace, OnRows, mode_of, Executes, runs_as, OfficeTable, table_of, at_tree, Places, HasTables}
+use Rattle.sqlite_sql.specs.Query.{Output}
+use Rattle.sqlite.specs.State.{State}
 use Rattle.office_tables.proofs.Asking.{overlaid}
 use Rattle.office_tables.proofs.Childless.{IsOwn, SparesMarked, writes, spared_own}
 use Rattle.office_tables.proofs.Meanings.{StatementMeans}

@@ -1,15 +1,6 @@
 -- A row is the list of its columns. A row with a column that no office writes isn't read.
-use Rattle.std.proofs.Common.{◌≡◌, ℕ, zero, suc, ◌<◌, List, [], ◌∷◌, ◌++◌, length, get_or, map, Result, Ok, Err, refl, sym, ap, subst, ◌∙◌, arith}
-use Rattle.std.specs.Prelude.{IfErr}
-use Rattle.std.specs.Result.{IsErrAnd}
-use Rattle.std.specs.List.{AllByRecursion}
-use Rattle.sqlite_value.specs.declared.value.Value.{Value}
-use Rattle.sqlite_value.specs.Order.{Row, column}
-use Rattle.office_base.specs.declared.shelf.ShelfFault.{ShelfFault}
-use Rattle.office_base.specs.declared.shelf.ShelfFault.TheVariants.{NoMemory, Store}
-use Rattle.office_base.specs.Faults.{IsFaultOf}
-use Rattle.office_tables.specs.Values.{columns_from}
-use Rattle.office_tables.specs.Unwritten.{IsUnwritten}
+use Rattle.office_tables.proofs.Names.{◌≡◌, ℕ, zero, suc, ◌<◌, List, [], ◌∷◌, ◌++◌, length, get_or, map, Result, Ok, Err, refl, sym, ap, subst, ◌∙◌, arith, IfErr, IsErrAnd, AllByRecursion, Value, Row, ShelfFault, NoMemory, Store, IsFaultOf, columns_from, IsUnwritten}
+use Rattle.sqlite_value.specs.Order.{column}
 
 shifted : (v : Value) (r : Row) (at n : ℕ) → columns_from (v ∷ r) (suc at) n ≡ columns_from r at n
 shifted v r at zero = refl

@@ -1,28 +1,14 @@
 -- Why a change of an office wasn't made, although its statement was understood.
-use Rattle.std.proofs.Common.{◌≡◌, ◌⊎◌, inl, inr, ℕ, List, [], ◌∷◌, None, Some, Ok, Err, Result, true, false, refl, sym, ap, subst, ◌∙◌, length, append-nil, true≢false}
-use Rattle.std.specs.Prelude.{IsErrAnd, IfErr, ◌≤◌}
-use Rattle.std.proofs.lemmas.Bool.{leb-true}
-use Rattle.sqlite_value.specs.Order.{Row}
-use Rattle.sqlite_trees.specs.declared.error.StoreError.{StoreError}
+use Rattle.office_tables.proofs.Names.{◌≡◌, ◌⊎◌, inl, inr, ℕ, List, [], ◌∷◌, None, Some, Ok, Err, Result, true, false, refl, sym, ap, subst, ◌∙◌, length, append-nil, true≢false, IsErrAnd, IfErr, ◌≤◌, leb-true, Row, StoreError, Command, Error, understood, Fails, IsNotRun, IsNoStatement, IsStatement, IsMisplaced, Escapes, EndsScope, ExecutesIn, ExecutesInside, RunsAlone, RunsCommand, HasCause, store_error, IsPlain, command_of, Tables, Put, IsExcused, DiskFails, Declines, StoreFails, Holds, values_of_put, get_version, Office}
 use Rattle.sqlite_trees.specs.declared.error.StoreError.TheVariants as stores
-use Rattle.sqlite_schema.specs.declared.command.Command.{Command}
 use Rattle.sqlite_resolve.specs.declared.compiled.Compiled.{Compiled}
-use Rattle.sqlite.specs.declared.error.Error.{Error}
 use Rattle.sqlite.specs.Clock.{timed}
-use Rattle.sqlite.specs.Listing.{understood}
-use Rattle.sqlite.specs.State.{State, Fails, IsNotRun, IsNoStatement, IsStatement, IsMisplaced, Escapes, EndsScope, ExecutesIn, ExecutesInside, RunsAlone, RunsCommand, HasCause, store_error}
-use Rattle.sqlite.proofs.Callers.{IsPlain, command_of}
-use Rattle.office_base.specs.Tables.{Tables}
-use Rattle.office_base.specs.declared.puts.Put.{Put}
-use Rattle.office_tables.specs.Failing.{IsExcused, DiskFails, Declines, StoreFails}
-use Rattle.office_tables.specs.Standing.{Holds}
-use Rattle.office_tables.specs.Schema.{statement_of, values_of_put}
-use Rattle.office_tables.specs.Version.{get_version}
+use Rattle.sqlite.specs.State.{State}
+use Rattle.office_tables.specs.Schema.{statement_of}
 use Rattle.office_tables.proofs.Made.{is_change, shows, quiet}
 use Rattle.office_tables.proofs.Meanings.{StatementMeans, IsOne, from_text}
 use Rattle.office_tables.proofs.ByTable.Office.{get_version_means, get_version_one}
 use Rattle.office_tables.proofs.Each.{known}
-use Rattle.office_tables.specs.Schema.OfficeTable.{Office}
 
 pub if_err_with : {A E : Type 0} (r : Result A E) (P Q : E → Type 0) → IfErr r P → ((e : E) → P e → Q e) → IfErr r Q
 if_err_with (Ok a) P Q h f = tt

@@ -1,24 +1,9 @@
 -- The empty office, after its tables are made.
-use Rattle.std.proofs.Common.{◌≡◌, ◌≢◌, ℕ, [], Ok, refl, sym, ap, subst, ◌∙◌}
-use Rattle.sqlite.specs.Effect.{Database}
-use Rattle.sqlite.specs.State.{State, Executes}
-use Rattle.office_base.specs.Rows.{row_put}
-use Rattle.office_base.specs.Tables.{no_tables}
-use Rattle.office_base.specs.declared.records.ClockRow.{ClockRow}
-use Rattle.office_tables.specs.Tables.Office.{clock_values, upsert_office, clock_form}
-use Rattle.office_tables.specs.Schema.{OfficeTable, table_of, all_tables}
-use Rattle.office_tables.specs.Known.{Places, HasTables}
-use Rattle.office_tables.specs.Standing.{Stands, Holds}
-use Rattle.office_tables.specs.Making.{AreMade, KeepsOthers, AreNew}
-use Rattle.office_tables.specs.Forms.{RowsStand}
-use Rattle.sqlite_schema.specs.declared.schema.Schema.{Schema}
-use Rattle.sqlite_schema.specs.declared.schema.Table.{Table}
-use Rattle.sqlite_rules.specs.Lists.{Has}
-use Rattle.sqlite_rules.proofs.ListLemmas.{all_has}
+use Rattle.office_tables.proofs.Names.{◌≡◌, ◌≢◌, ℕ, [], Ok, refl, sym, ap, subst, ◌∙◌, Database, Executes, row_put, no_tables, ClockRow, clock_values, upsert_office, clock_form, OfficeTable, table_of, all_tables, Places, HasTables, Stands, Holds, AreMade, KeepsOthers, AreNew, RowsStand, Schema, Table, Has, all_has, Office}
+use Rattle.sqlite.specs.State.{State}
 use Rattle.office_tables.proofs.Writes.{puts_row, puts_others}
 use Rattle.office_tables.proofs.ByTable.Office.{clock_shape, clock_put}
 use Rattle.office_tables.proofs.Each.{bare, found, listed, nothing, stands_empty}
-use Rattle.office_tables.specs.Schema.OfficeTable.{Office}
 use Rattle.office_tables.proofs.TableTools.{put_means}
 
 -- the row is put into a table of the office, so all other tables keep their rows

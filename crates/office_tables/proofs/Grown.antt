@@ -1,21 +1,5 @@
 -- A schema with one more table or index still has everything that it had.
-use Rattle.std.proofs.Common.{◌≡◌, ◌⊎◌, inl, inr, ◌∷◌, [], ◌++◌, ◌+◌, ◌==◌, ◌&&◌, ◌<◌, ◌≢◌, ◌^◌, List, None, Some, refl, false, true, Bool, cond, ℕ, zero, suc, slice_get, filter, length, ap, sym, subst, ◌∙◌, append-nil, arith, nat_le}
-use Rattle.std.specs.List.{position_from}
-use Rattle.std.proofs.lemmas.Bool.Decides.{eqb_tells, nat_tests}
-use Rattle.std.proofs.lemmas.Bool.{eq-eqb}
-use Rattle.sqlite_schema.specs.declared.schema.Schema.{Schema}
-use Rattle.sqlite_schema.specs.declared.schema.Table.{Table}
-use Rattle.sqlite_schema.specs.declared.schema.Index.{Index}
-use Rattle.sqlite_schema.specs.Names.{table_named, same_name}
-use Rattle.sqlite_schema.specs.Rules.{guards}
-use Rattle.sqlite_rules.specs.Lists.{Has}
-use Rattle.sqlite_catalog.specs.Listing.{IsTableRow, IsIndexRow}
-use Rattle.sqlite_catalog.specs.Change.{created, indexed, next_tree}
-use Rattle.sqlite_catalog.proofs.StepLemmas.{table_below}
-use Rattle.sqlite_catalog.proofs.LayoutLemmas.{zipped_left, index_owner}
-use Rattle.sqlite_catalog.proofs.AlterLemmas.{place_has}
-use Rattle.sqlite.specs.Effect.{Database, IsDatabase}
-use Rattle.office_tables.specs.Known.{IsIn, at_tree, key_indexes}
+use Rattle.office_tables.proofs.Names.{◌≡◌, ◌⊎◌, inl, inr, ◌∷◌, [], ◌++◌, ◌+◌, ◌==◌, ◌&&◌, ◌<◌, ◌≢◌, ◌^◌, List, None, Some, refl, false, true, Bool, cond, ℕ, zero, suc, slice_get, filter, length, ap, sym, subst, ◌∙◌, append-nil, arith, nat_le, position_from, eqb_tells, nat_tests, eq-eqb, Schema, Table, Index, table_named, same_name, guards, Has, IsTableRow, IsIndexRow, created, indexed, next_tree, table_below, zipped_left, index_owner, place_has, Database, IsDatabase, IsIn, at_tree, key_indexes}
 use Rattle.office_tables.proofs.Keyed.{HasKey, HasIndex, IsRowid}
 
 -- ---- lists with more elements after them

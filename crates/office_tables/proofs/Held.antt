@@ -1,17 +1,7 @@
 -- A database that held an office still holds one after a change of one table.
-use Rattle.std.proofs.Common.{true, List, [], ◌∷◌, refl, sym, subst, IsTrue}
-use Rattle.std.specs.declared.cmp.Ordering.{Ordering}
-use Rattle.sqlite_value.specs.declared.value.Value.{Value}
-use Rattle.sqlite_value.specs.Order.{Row}
-use Rattle.sqlite.specs.Effect.{Database}
-use Rattle.sqlite.specs.State.{State, Shows}
-use Rattle.office_base.specs.Tables.{Tables, after_put}
-use Rattle.office_base.specs.declared.puts.Put.{Put}
-use Rattle.office_tables.specs.Schema.{OfficeTable}
-use Rattle.office_tables.specs.Known.{HasTables}
-use Rattle.office_tables.specs.Kept.{Stand}
-use Rattle.office_tables.specs.Standing.{Stands, Holds}
-use Rattle.office_tables.specs.Steps.{Goes, MakesOne, Puts}
+use Rattle.office_tables.proofs.Names.{true, List, [], ◌∷◌, refl, sym, subst, IsTrue, Ordering, Value, Row, Database, Shows, Tables, after_put, Put, OfficeTable, HasTables, Stand, Stands, Holds, MakesOne}
+use Rattle.sqlite.specs.State.{State}
+use Rattle.office_tables.specs.Steps.{Goes, Puts}
 use Rattle.office_tables.proofs.Writes.{IsPut}
 use Rattle.office_tables.proofs.Writes.{with_rows}
 

@@ -1,17 +1,5 @@
 -- The items of a lot are read back from their text.
-use Rattle.std.proofs.Common.{◌≡◌, ℕ, zero, suc, ◌+◌, ◌<◌, ◌≤◌, ◌^◌, Bool, true, false, cond, List, [], ◌∷◌, ◌++◌, length, length-append, append_assoc, refl, sym, ap, subst, ◌∙◌, arith, true≢false}
-use Rattle.std.specs.Prelude.{◌==◌, IsTrue}
-use Rattle.std.specs.Fmt.{decimal}
-use Rattle.std.specs.List.{AllByRecursion}
-use Rattle.std.specs.Str.Parse.{digits_value, AllDigits}
-use Rattle.std.proofs.lemmas.Bool.{eqb-true}
-use Rattle.std.proofs.lemmas.Fmt.{decimal_is_IsNumeral}
-use Rattle.std.proofs.lemmas.List.Elements.{recursion_from_All}
-use Rattle.std.specs.Char.{digit_value}
-use Rattle.office_values.specs.Ids.{IsId, is_id_byte}
-use Rattle.office_values.specs.Texts.{IsTextLine, is_line_byte}
-use Rattle.office_commands.specs.declared.item.Item.{Item}
-use Rattle.office_tables.specs.ItemTexts.{item_then, items_text, text_before, text_behind, first_item, item_rest, some_items, items_in_text, Avoids, ItemFits}
+use Rattle.office_tables.proofs.Names.{◌≡◌, ℕ, zero, suc, ◌+◌, ◌<◌, ◌≤◌, ◌^◌, Bool, true, false, cond, List, [], ◌∷◌, ◌++◌, length, length-append, append_assoc, refl, sym, ap, subst, ◌∙◌, arith, true≢false, ◌==◌, IsTrue, decimal, AllByRecursion, digits_value, AllDigits, eqb-true, decimal_is_IsNumeral, recursion_from_All, digit_value, IsId, is_id_byte, IsTextLine, is_line_byte, Item, item_then, items_text, text_before, text_behind, first_item, item_rest, some_items, items_in_text, Avoids, ItemFits}
 
 pub before_is : (stop : ℕ) (bytes rest : List ℕ) → Avoids stop bytes → text_before stop (bytes ++ (stop ∷ rest)) ≡ bytes
 before_is stop [] rest h = ap (λ b. cond b [] (stop ∷ text_before stop rest)) (Rattle.std.proofs.lemmas.Bool.eq-eqb stop stop refl)

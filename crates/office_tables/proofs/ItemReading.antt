@@ -1,24 +1,5 @@
 -- How a text is cut at the first of some bytes, and the item that the parts of the text mean.
-use Rattle.std.proofs.Common.{◌≡◌, inl, inr, ℕ, zero, suc, ◌+◌, ◌-◌, ◌<◌, ◌≤◌, ◌^◌, Bool, true, false, cond, List, [], ◌∷◌, ◌++◌, Option, Some, None, Result, Ok, Err, length, take, drop, get_or, append_assoc, append-nil, refl, sym, ap, subst, ◌∙◌, arith, true≢false}
-use Rattle.std.specs.Prelude.{◌==◌, not, position, nat_lt}
-use Rattle.std.specs.List.{AllByRecursion, position_or_len}
-use Rattle.std.specs.Fmt.{decimal}
-use Rattle.std.specs.Prelude.{◌⊎◌, IsUtf8, IfOk, IfErr, IfSome, IfNone, ok_or}
-use Rattle.std.specs.Str.Parse.{ParsesUnsigned}
-use Rattle.std.proofs.lemmas.Fmt.{parse-decimal, IsAscii-decimal}
-use Rattle.std.proofs.lemmas.Str.{IsUtf8-from_ascii}
-use Rattle.std.proofs.lemmas.Bool.{eqb-true, ltb-false}
-use Rattle.std.proofs.lemmas.List.Quantifiers.{position-Some}
-use Rattle.std.proofs.lemmas.List.{take_rest}
-use Rattle.office_commands.specs.declared.item.Item.{Item}
-use Rattle.office_tables.specs.ItemTexts.{item_then, items_text, items_in_text, text_before, text_behind, item_rest, Avoids, ItemFits, IsItem, AreItems}
-use Rattle.office_tables.specs.Ranges.{IsWithin}
-use Rattle.office_tables.specs.Unwritten.{IsUnwritten}
-use Rattle.office_commands.specs.Identified.{repeats_id}
-use Rattle.office_commands.specs.Items.{item_id}
-use Rattle.office_base.specs.declared.shelf.ShelfFault.{ShelfFault}
-use Rattle.office_base.specs.declared.shelf.ShelfFault.TheVariants.{Store}
-use Rattle.office_base.specs.Faults.{IsFaultOf}
+use Rattle.office_tables.proofs.Names.{◌≡◌, inl, inr, ℕ, zero, suc, ◌+◌, ◌-◌, ◌<◌, ◌≤◌, ◌^◌, Bool, true, false, cond, List, [], ◌∷◌, ◌++◌, Option, Some, None, Result, Ok, Err, length, take, drop, get_or, append_assoc, append-nil, refl, sym, ap, subst, ◌∙◌, arith, true≢false, ◌==◌, not, position, nat_lt, AllByRecursion, position_or_len, decimal, ◌⊎◌, IsUtf8, IfOk, IfErr, IfSome, IfNone, ok_or, ParsesUnsigned, parse-decimal, IsAscii-decimal, IsUtf8-from_ascii, eqb-true, ltb-false, position-Some, take_rest, Item, item_then, items_text, items_in_text, text_before, text_behind, item_rest, Avoids, ItemFits, IsItem, AreItems, IsWithin, IsUnwritten, repeats_id, item_id, ShelfFault, Store, IsFaultOf}
 use Rattle.office_tables.proofs.ItemLemmas.{before_is, behind_is, item_len, item_fits, behind_item, digits_avoid, rest_is, items_back, items_text-push}
 
 -- ---- a cut

@@ -1,19 +1,8 @@
 -- The rows of a table after one row is put.
-use Rattle.std.proofs.Common.{◌≡◌, ◌⊎◌, inl, inr, true, cond, List, [], ◌∷◌, map, Option, Some, None, refl, sym, ap, subst, ◌∙◌, Ordering, Less, Equal, Greater, true≢false}
-use Rattle.std.proofs.lemmas.Bool.{cases_Bool}
-use Rattle.std.specs.Ordering.{eq_by_cmp, is_eq}
-use Rattle.std.specs.Cmp.{IsTotalOrder, tied_itself}
-use Rattle.std.specs.FinMap.{find, IsAntisymmetric}
-use Rattle.office_base.specs.Rows.{row_at, row_put, IsInOrder}
-use Rattle.office_base.proofs.RowLaws.{row_at-row_put, in_order-put}
+use Rattle.office_tables.proofs.Names.{◌≡◌, ◌⊎◌, inl, inr, true, cond, List, [], ◌∷◌, map, Option, Some, None, refl, sym, ap, subst, ◌∙◌, Ordering, Less, Equal, Greater, true≢false, cases_Bool, eq_by_cmp, is_eq, IsTotalOrder, tied_itself, IsAntisymmetric, row_put, IsInOrder, row_at-row_put, in_order-put, Value, Row, rowid, IsTable, is_int, Has, all_has, all_from, key_of, entry, rows_kept, AreKept}
+use Rattle.std.specs.FinMap.{find}
+use Rattle.office_base.specs.Rows.{row_at}
 use Rattle.office_tables.proofs.Sorted.{same_rows}
-use Rattle.sqlite_value.specs.declared.value.Value.{Value}
-use Rattle.sqlite_value.specs.Order.{Row}
-use Rattle.sqlite_trees.specs.Tree.{rowid, IsTable}
-use Rattle.sqlite_trees.specs.View.{is_int}
-use Rattle.sqlite_rules.specs.Lists.{Has}
-use Rattle.sqlite_rules.proofs.ListLemmas.{all_has, all_from}
-use Rattle.office_tables.specs.Kept.{key_of, entry, rows_kept, AreKept}
 
 equal_is : (o : Ordering) → is_eq o ≡ true → o ≡ Equal
 equal_is Less h = absurd (cc)

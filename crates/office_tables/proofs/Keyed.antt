@@ -1,18 +1,6 @@
 -- The key of a table alone decides which rows conflict, and which columns ON CONFLICT names.
-use Rattle.std.proofs.Common.{◌≡◌, ◌⊎◌, inl, inr, ℕ, Bool, true, false, ◌&&◌, ◌||◌, ◌==◌, cond, List, [], ◌∷◌, length, filter, find, Option, Some, None, Ok, refl, sym, ap, subst, ◌∙◌}
-use Rattle.std.specs.Prelude.{bytes_eq}
-use Rattle.std.specs.List.{list_any}
-use Rattle.std.proofs.lemmas.Bool.{eq-eqb}
-use Rattle.std.proofs.lemmas.Slice.Eq.{bytes_eq-Decides}
-use Rattle.sqlite_value.specs.Order.{Row}
-use Rattle.sqlite_value.specs.Keys.{plain}
-use Rattle.sqlite_schema.specs.declared.schema.Schema.{Schema}
-use Rattle.sqlite_schema.specs.declared.schema.Table.{Table}
-use Rattle.sqlite_schema.specs.declared.schema.Index.{Index}
-use Rattle.sqlite_schema.specs.Rules.{agree, guards}
-use Rattle.sqlite_rules.specs.Keys.{conflicts, shares}
-use Rattle.sqlite_resolve.specs.Given.{are_among, is_key_at, key_at}
-use Rattle.office_tables.specs.Known.{IsIn, at_tree, key_indexes}
+use Rattle.office_tables.proofs.Names.{◌≡◌, ◌⊎◌, inl, inr, ℕ, Bool, true, false, ◌&&◌, ◌||◌, ◌==◌, cond, List, [], ◌∷◌, length, filter, Option, Some, None, Ok, refl, sym, ap, subst, ◌∙◌, bytes_eq, list_any, eq-eqb, bytes_eq-Decides, Row, plain, Schema, Table, Index, agree, guards, conflicts, shares, are_among, is_key_at, key_at, IsIn, at_tree, key_indexes}
+use Rattle.std.proofs.Common.{find}
 
 -- the key has an index of its own, which orders by bytes
 pub record HasIndex (table : Table) : Type 0 where

@@ -1,16 +1,6 @@
 -- The tables that are missing in an edition are made, one after another.
-use Rattle.std.proofs.Common.{◌≡◌, ◌⊎◌, inl, inr, ℕ, true, false, List, [], ◌∷◌, filter, map, sym, ap, subst, ◌∙◌, true≢false, arith}
-use Rattle.std.specs.Prelude.{nat_lt}
-use Rattle.std.proofs.lemmas.Bool.{cases_Bool, ltb-true, lt-ltb}
-use Rattle.sqlite_rules.specs.Lists.{Has}
-use Rattle.sqlite_rules.proofs.ListLemmas.{has_kept}
-use Rattle.sqlite.specs.Effect.{Database}
+use Rattle.office_tables.proofs.Names.{◌≡◌, ◌⊎◌, inl, inr, ℕ, true, false, List, [], ◌∷◌, filter, map, sym, ap, subst, ◌∙◌, true≢false, arith, nat_lt, cases_Bool, ltb-true, lt-ltb, Has, has_kept, Database, MakesMissing, came_with, lacks_table, later_line, later_tables, IsIn, IsCreate, AreMade, Makes, onto, OfficeTable, table_of, all_tables}
 use Rattle.sqlite.specs.State.{State}
-use Rattle.office_tables.specs.Earlier.{MakesMissing}
-use Rattle.office_tables.specs.Editions.{came_with, lacks_table, later_line, later_tables}
-use Rattle.office_tables.specs.Known.{IsIn}
-use Rattle.office_tables.specs.Making.{IsCreate, AreMade, Makes, onto}
-use Rattle.office_tables.specs.Schema.{OfficeTable, table_of, all_tables}
 use Rattle.office_tables.specs.Steps.{Goes}
 use Rattle.office_tables.proofs.Each.{each, listed}
 use Rattle.office_tables.proofs.MakingSteps.{makes_then}

@@ -1,3 +1,4 @@
+pub mod Names
 pub mod Exactly
 pub mod ItemLemmas
 pub mod ItemReading

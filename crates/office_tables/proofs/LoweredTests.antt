@@ -1,17 +1,10 @@
 -- The compiled form of a parameter, of `a = c`, of `a > c` and of `a AND c`, in any scope.
-use Rattle.std.proofs.Common.{◌≡◌, ◌-◌, Ok, true, ℕ, suc, nat_lt}
-use Rattle.sqlite_sql.specs.Term.{Term, col, op2}
+use Rattle.office_tables.proofs.Names.{◌≡◌, ◌-◌, Ok, true, ℕ, suc, nat_lt, Term, col, op2, Expr, out-Expr, Expr-F, Carried, Context, Checked, Lowering, chosen, spend, begin, finish, compared, node, opened, passes, operation, both, combine, wanted_truth, tests_truth, tests_alias, lower_to}
 use Rattle.sqlite_sql.specs.declared.ops.BinaryOp.TheVariants as by
 use Rattle.sqlite_sql.specs.declared.ops.CompareOp.TheVariants as compare
 use Rattle.sqlite_ast.specs.declared.Binary.TheVariants as binary
-use Rattle.sqlite_ast.specs.declared.Expr.{Expr, out-Expr}
-use Rattle.sqlite_ast.specs.declared.Expr.TheOpen.{Expr-F}
 use Rattle.sqlite_resolve.specs.declared.state.State.{State}
-use Rattle.sqlite_resolve.specs.declared.state.Carried.{Carried}
-use Rattle.sqlite_resolve.specs.Scope.{Context}
-use Rattle.sqlite_resolve.specs.Lowering.{Checked, Lowering, nothing, chosen, spend, begin, finish}
-use Rattle.sqlite_resolve.specs.Compare.{compared}
-use Rattle.sqlite_resolve.specs.Expr.{node, opened, passes, operation, both, combine, wanted_truth, tests_truth, tests_alias, lower_to}
+use Rattle.sqlite_resolve.specs.Lowering.{nothing}
 use Rattle.office_tables.proofs.Whole.{at_budget}
 
 -- an expression is compiled as its node is

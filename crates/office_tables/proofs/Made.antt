@@ -1,16 +1,7 @@
 -- A statement that changes rows turns one database into another.
-use Rattle.std.proofs.Common.{◌≡◌, ℕ, List, [], None, Option, Ok, true, false, Bool, ◌||◌, sym, ap, subst, subst₂, ◌∙◌, append-nil, true≢false}
-use Rattle.std.specs.Prelude.{is_some}
-use Rattle.sqlite_value.specs.Order.{Row}
-use Rattle.sqlite_schema.specs.declared.command.Command.{Command}
-use Rattle.sqlite_schema.specs.declared.command.Command.TheVariants.{InsertOr, Delete}
-use Rattle.sqlite_schema.specs.declared.command.Returning.{Returning}
+use Rattle.office_tables.proofs.Names.{◌≡◌, ℕ, List, [], None, Option, Ok, true, false, Bool, ◌||◌, sym, ap, subst, subst₂, ◌∙◌, append-nil, true≢false, is_some, Row, Command, InsertOr, Delete, Returning, Tally, Does, is_query, understood, ExecutesIn, Runs, RunsCommand, is_pragma, mode_of, shows_rows, text_of, IsPlain, command_of}
 use Rattle.sqlite_resolve.specs.declared.compiled.Compiled.{Compiled}
-use Rattle.sqlite.specs.Does.{Tally, Does}
-use Rattle.sqlite.specs.Effect.{is_query}
-use Rattle.sqlite.specs.Listing.{understood}
-use Rattle.sqlite.specs.State.{State, ExecutesIn, Runs, RunsCommand, is_pragma, mode_of, shows_rows, text_of}
-use Rattle.sqlite.proofs.Callers.{IsPlain, command_of}
+use Rattle.sqlite.specs.State.{State}
 use Rattle.office_tables.proofs.Meanings.{StatementMeans}
 
 -- the commands that change rows: they return none, and end no transaction

@@ -1,33 +1,9 @@
 -- A CREATE keeps the tables of an office that were already made.
-use Rattle.std.proofs.Common.{◌≡◌, ◌⊎◌, inl, inr, ◌<◌, ◌||◌, ◌∷◌, [], List, Ok, Err, None, Some, Option, Result, refl, false, ℕ, ap, sym, subst, ◌∙◌, true≢false}
-use Rattle.std.specs.Prelude.{is_some}
-use Rattle.std.specs.List.{AllByRecursion}
-use Rattle.std.proofs.lemmas.Bool.{cases_Bool, MatchBool-at_true, MatchBool-at_false}
-use Rattle.sqlite_schema.specs.declared.schema.Schema.{Schema}
-use Rattle.sqlite_schema.specs.declared.schema.Reference.{Reference}
-use Rattle.sqlite_schema.specs.declared.schema.Table.{Table}
-use Rattle.sqlite_schema.specs.declared.schema.Index.{Index}
-use Rattle.sqlite_schema.specs.declared.command.Command.{Command}
+use Rattle.office_tables.proofs.Names.{◌≡◌, ◌⊎◌, inl, inr, ◌<◌, ◌||◌, ◌∷◌, [], List, Ok, Err, None, Some, Option, Result, refl, false, ℕ, ap, sym, subst, ◌∙◌, true≢false, is_some, AllByRecursion, cases_Bool, MatchBool-at_true, MatchBool-at_false, Schema, Reference, Table, Index, Command, same_name, table_named, index_named, view_named, Has, all_has, created, next_tree, KeepsRows, place_has, CompileError, table_defined_by, everything, Database, IsDatabase, Tally, AtPlace, Defines, MakesTable, MakesIndex, MakesSequence, lacks_sequence, sequence_text, Executes, ExecutesIn, mode_of, understood, runs_as, command_of, IsPlain, OfficeTable, table_of, AddsNoReference, IsIn, at_tree, Says, IsCreate, IsIndexing, AreMade, KeepsOthers, KeepsOffice, AreNew, none_placed}
 use Rattle.sqlite_schema.specs.declared.command.Command.TheVariants.{CreateTable, CreateIndex}
-use Rattle.sqlite_schema.specs.Names.{same_name, table_named, index_named, view_named}
-use Rattle.sqlite_rules.specs.Lists.{Has}
-use Rattle.sqlite_rules.proofs.ListLemmas.{all_has}
-use Rattle.sqlite_catalog.specs.Change.{created, next_tree, KeepsRows}
-use Rattle.sqlite_catalog.proofs.AlterLemmas.{place_has}
 use Rattle.sqlite_resolve.specs.declared.compiled.Compiled.{Compiled}
-use Rattle.sqlite_resolve.specs.declared.error.CompileError.{CompileError}
-use Rattle.sqlite_resolve.specs.Compile.{table_defined_by}
-use Rattle.sqlite_tied.specs.Compute.{everything}
-use Rattle.sqlite.specs.Effect.{Database, IsDatabase}
-use Rattle.sqlite.specs.Does.{Tally, AtPlace, Defines, MakesTable, MakesIndex, MakesSequence, lacks_sequence, sequence_text}
-use Rattle.sqlite.specs.State.{State, Writes, Executes, ExecutesIn, mode_of}
-use Rattle.sqlite.specs.Listing.{understood}
-use Rattle.sqlite.proofs.Callers.{runs_as, command_of, statement_of, IsPlain}
-use Rattle.office_tables.specs.Schema.{OfficeTable, table_of}
-use Rattle.office_tables.specs.Apart.{AddsNoReference}
-use Rattle.office_tables.specs.Known.{IsIn, at_tree}
-use Rattle.office_tables.specs.Making.{Says, IsCreate, IsIndexing, AreMade, KeepsOthers, KeepsOffice, AreNew}
-use Rattle.sqlite_catalog.proofs.ListFacts.{none_placed}
+use Rattle.sqlite.specs.State.{State, Writes}
+use Rattle.sqlite.proofs.Callers.{statement_of}
 use Rattle.office_tables.proofs.Upserted.{went, same_value}
 use Rattle.office_tables.proofs.Grown.{created_keeps, indexed_keeps, created_is, low_tree, has-append, has_last, has_front}
 use Rattle.office_tables.proofs.Each.{bare, each}

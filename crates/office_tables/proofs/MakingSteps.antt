@@ -1,13 +1,7 @@
 -- Tables are made one after another.
-use Rattle.std.proofs.Common.{◌≡◌, ℕ, Ok, List, [], ◌∷◌, ◌++◌, map, append_assoc, append-nil, refl, sym, subst, ◌∙◌, false}
-use Rattle.sqlite_schema.specs.declared.schema.Index.{Index}
-use Rattle.sqlite.specs.Effect.{IsDatabase}
-use Rattle.sqlite.specs.State.{State, ExecutesInside}
-use Rattle.office_base.specs.Tables.{first_clock}
-use Rattle.office_tables.specs.Tables.Office.{clock_values, upsert_office}
-use Rattle.office_tables.specs.Schema.{OfficeTable, table_of, create_of, all_tables}
-use Rattle.office_tables.specs.Steps.{Goes, Refused}
-use Rattle.office_tables.specs.Making.{IsCreate, IsIndexing, AreMade, Makes, Indexes, Founds, onto}
+use Rattle.office_tables.proofs.Names.{◌≡◌, ℕ, Ok, List, [], ◌∷◌, ◌++◌, map, append_assoc, append-nil, refl, sym, subst, ◌∙◌, false, Index, IsDatabase, ExecutesInside, first_clock, clock_values, upsert_office, OfficeTable, table_of, create_of, all_tables, Refused, IsCreate, IsIndexing, AreMade, Makes, Indexes, Founds, onto}
+use Rattle.sqlite.specs.State.{State}
+use Rattle.office_tables.specs.Steps.{Goes}
 use Rattle.office_tables.proofs.Held.{goes_on}
 use Rattle.office_tables.proofs.Childless.{all-append}
 use Rattle.office_tables.proofs.Makes.{makes_table, makes_index, table_others, index_others, others_then, stays_then, added_then, all_so}

@@ -1,17 +1,8 @@
 -- The facts about a statement's text that a caller needs, and the parts that the grammar finds in it.
-use Rattle.std.proofs.Common.{◌≡◌, [], List, Ok, Err, Option, Result, ℕ, ap, subst, sym, length, true, false}
-use Rattle.std.specs.Prelude.{nat_le}
-use Rattle.sqlite_schema.specs.declared.schema.Schema.{Schema}
-use Rattle.sqlite_schema.specs.declared.command.Command.{Command}
+use Rattle.office_tables.proofs.Names.{◌≡◌, [], List, Ok, Err, Option, Result, ℕ, ap, subst, sym, length, true, false, nat_le, Schema, Command, Parsed, CompileError, Returning, first, planned, with_command, Checked, and_then, understood, reads_listing, IsPlain, command_of}
 use Rattle.sqlite_ast.specs.declared.Statement.TheVariants as written
-use Rattle.sqlite_syntax.specs.declared.statement.Parsed.{Parsed}
-use Rattle.sqlite_resolve.specs.declared.error.CompileError.{CompileError}
 use Rattle.sqlite_resolve.specs.declared.compiled.Compiled.{Compiled}
-use Rattle.sqlite_schema.specs.declared.command.Returning.{Returning}
-use Rattle.sqlite_resolve.specs.Compile.{compiled, first, planned, with_command}
-use Rattle.sqlite_resolve.specs.Lowering.{Checked, and_then}
-use Rattle.sqlite.specs.Listing.{understood, reads_listing}
-use Rattle.sqlite.proofs.Callers.{IsPlain, command_of}
+use Rattle.sqlite_resolve.specs.Compile.{compiled}
 
 -- the statement that was parsed
 unfoldable pub parsed_in : Result Parsed CompileError → Parsed

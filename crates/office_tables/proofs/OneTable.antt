@@ -1,19 +1,11 @@
 -- The FROM of a SELECT over one known table, in any schema that has it.
-use Rattle.std.proofs.Common.{◌≡◌, ◌∷◌, [], List, Ok, None, Some, false, Bool, ℕ, slice_get}
-use Rattle.sqlite_schema.specs.declared.schema.Schema.{Schema}
-use Rattle.sqlite_schema.specs.declared.schema.Table.{Table}
-use Rattle.sqlite_schema.specs.Names.{table_named}
+use Rattle.office_tables.proofs.Names.{◌≡◌, ◌∷◌, [], List, Ok, None, Some, false, Bool, ℕ, slice_get, Schema, Table, table_named, out-Source, Core, out-Core, Inner, Bound, Name, Context, fresh, max_budget, take_slot, lower}
 use Rattle.sqlite_ast.specs.declared.Origin.TheVariants as origin
-use Rattle.sqlite_ast.specs.declared.Source.{Source, out-Source}
-use Rattle.sqlite_ast.specs.declared.Core.{Core, out-Core}
+use Rattle.sqlite_ast.specs.declared.Source.{Source}
 use Rattle.sqlite_ast.specs.declared.Select.{Select}
-use Rattle.sqlite_draft.specs.declared.join.Step.TheVariants.{Inner}
 use Rattle.sqlite_resolve.specs.declared.state.State.{State}
-use Rattle.sqlite_resolve.specs.declared.scope.Bound.{Bound}
 use Rattle.sqlite_resolve.specs.declared.scope.Output.{Output}
-use Rattle.sqlite_resolve.specs.Scope.{Name, Context}
-use Rattle.sqlite_resolve.specs.Lowering.{nothing, fresh, max_budget, take_slot}
-use Rattle.sqlite_resolve.specs.Expr.{lower}
+use Rattle.sqlite_resolve.specs.Lowering.{nothing}
 use Rattle.sqlite_resolve.specs.Body as body
 use Rattle.sqlite_resolve.specs.Program as program
 use Rattle.office_tables.proofs.Whole.{at_budget}

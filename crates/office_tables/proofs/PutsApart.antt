@@ -1,14 +1,6 @@
 -- Puts of a notice and of the clock leave tables apart as they are.
-use Rattle.std.proofs.Common.{◌≡◌, ℕ, Option}
-use Rattle.sqlite.specs.Effect.{Database}
+use Rattle.office_tables.proofs.Names.{◌≡◌, ℕ, Option, Database, ClockRow, NoticeRow, notices, upsert_notices, notice_form, office, upsert_office, clock_form, IsIn, MakesOne, Notices, Office}
 use Rattle.office_base.specs.declared.puts.Put.TheVariants as puts
-use Rattle.office_base.specs.declared.records.ClockRow.{ClockRow}
-use Rattle.office_base.specs.declared.records.NoticeRow.{NoticeRow}
-use Rattle.office_tables.specs.Tables.Notices.{notices, upsert_notices, notice_form}
-use Rattle.office_tables.specs.Tables.Office.{office, upsert_office, clock_form}
-use Rattle.office_tables.specs.Known.{IsIn}
-use Rattle.office_tables.specs.Steps.{MakesOne}
-use Rattle.office_tables.specs.Schema.OfficeTable.{Notices, Office}
 use Rattle.office_tables.proofs.Childless.{SparesMarked}
 use Rattle.office_tables.proofs.Writes.{put_apart}
 use Rattle.office_tables.proofs.ByTable.Office.{clock_shape, clock_put}

@@ -1,12 +1,7 @@
 -- The state of a connection after a select, and the values of its rows.
-use Rattle.std.specs.Prelude.{OnOk, IfOk, IfErr}
-use Rattle.std.proofs.Common.{◌⊎◌, inl, inr, ℕ, List, Option, Some, None, Ok, Err, Result, IsTrue, ◌∙◌}
-use Rattle.sqlite_value.specs.Order.{Row}
+use Rattle.office_tables.proofs.Names.{OnOk, IfOk, IfErr, ◌⊎◌, inl, inr, ℕ, List, Option, Some, None, Ok, Err, Result, IsTrue, ◌∙◌, Row, Error, IsUnchanged, IsRolledBack, IsNotRun, IsTooLate, FailsToQuery, FailsToShow, ShowsRows, Returning, Refused}
 use Rattle.sqlite_resolve.specs.declared.compiled.Compiled.{Compiled}
-use Rattle.sqlite.specs.declared.error.Error.{Error}
-use Rattle.sqlite.specs.State.{State, IsUnchanged, IsRolledBack, IsNotRun, IsTooLate, FailsToQuery, FailsToShow, Shown, ShowsRows}
-use Rattle.sqlite_schema.specs.declared.command.Returning.{Returning}
-use Rattle.office_tables.specs.Steps.{Refused}
+use Rattle.sqlite.specs.State.{State, Shown}
 
 pub unchanged : (old new : State) → IsUnchanged old new → Refused old new
 unchanged old new same = record { was_open = λ _. same.0.was_open; committed = λ _. same.0.committed_is }

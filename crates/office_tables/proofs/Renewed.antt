@@ -1,23 +1,5 @@
 -- The rows that an update of the row with one rowid shows.
-use Rattle.std.proofs.Common.{◌≡◌, Some, inl, inr, ℕ, ℤ, Bool, true, false, List, [], ◌∷◌, zero, suc, ◌<◌, arith, refl, sym, ap, ap₂, ◌∙◌}
-use Rattle.std.specs.Ordering.{is_eq, ordering_reverse}
-use Rattle.std.specs.Cmp.{tied_itself}
-use Rattle.std.specs.List.{swap}
-use Rattle.std.specs.List.Sorted.{IsPermutation, SwapsInRange, apply_swaps}
-use Rattle.sqlite_value.specs.declared.value.Value.{Value}
-use Rattle.sqlite_value.specs.declared.value.Value.TheVariants.{Int}
-use Rattle.sqlite_value.specs.declared.keys.Collation.TheVariants.{Binary}
-use Rattle.sqlite_value.specs.Order.{Row, value_cmp}
-use Rattle.sqlite_value.proofs.OrderLemmas.{value_cmp_total}
-use Rattle.sqlite_trees.specs.Tree.{rowid, IsTable}
-use Rattle.sqlite_trees.specs.View.{is_int}
-use Rattle.sqlite_sql.specs.Ops.{binary, is_true, from_truth}
-use Rattle.sqlite_sql.specs.Term.{Env}
-use Rattle.sqlite_schema.specs.Rules.{equal}
-use Rattle.sqlite_rules.specs.Lists.{Has}
-use Rattle.sqlite_rules.specs.Edit.{id_in}
-use Rattle.sqlite_rules.proofs.ListLemmas.{all_has}
-use Rattle.sqlite_rules.proofs.TableLemmas.{int_is}
+use Rattle.office_tables.proofs.Names.{◌≡◌, Some, inl, inr, ℕ, ℤ, Bool, true, false, List, [], ◌∷◌, zero, suc, ◌<◌, arith, refl, sym, ap, ap₂, ◌∙◌, is_eq, ordering_reverse, tied_itself, swap, IsPermutation, SwapsInRange, apply_swaps, Value, Int, Binary, Row, value_cmp, value_cmp_total, rowid, IsTable, is_int, binary, is_true, from_truth, Env, equal, Has, id_in, all_has, int_is}
 use Rattle.office_tables.proofs.Selected.{picked}
 
 as_truth : (test : Bool) → is_true (from_truth (Some test)) ≡ test

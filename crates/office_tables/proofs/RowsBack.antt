@@ -1,44 +1,12 @@
 -- Each record is read back from its row: field by field, and by cases for a state, a reading or an optional value.
-use Rattle.std.proofs.Common.{◌≡◌, ℕ, Bool, true, false, List, Option, Some, None, refl}
-use Rattle.std.specs.Prelude.{option_map}
-use Rattle.office_commands.specs.declared.contract.How.{How}
+use Rattle.office_tables.proofs.Names.{◌≡◌, ℕ, Bool, true, false, List, Option, Some, None, refl, option_map, How, Reading, Unreadable, Nonconforming, Priced, NoticeState, LotState, EnvelopeState, SecurityState, AwardState, EntryKind, NoticeRow, LotRow, EnvelopeRow, SecurityRow, AwardRow, ContractRow, EntryRow, PerformanceRow, or_null, perhaps_in, text_or_null, perhaps_text_in, as_number, truth_in, perhaps_truth_in, notice_state_text, notice_state_in, lot_state_text, lot_state_in, envelope_state_text, envelope_state_in, security_state_text, security_state_in, award_state_text, award_state_in, how_text, how_in, entry_kind_text, entry_kind_in, reading_word, stated_price, corrected_price, count_of_corrections, reading_in, items_text, items_in_text, notice_values, notice_read, former_values, former_read, asks_nothing, lot_values, lot_read, envelope_values, envelope_read, security_values, security_read, award_values, award_read, contract_values, contract_read, entry_values, entry_read, performance_values, performance_read, Int, pos}
 use Rattle.office_commands.specs.declared.contract.How.TheVariants as how
-use Rattle.office_base.specs.declared.reading.Reading.{Reading}
-use Rattle.office_base.specs.declared.reading.Reading.TheVariants.{Unreadable, Nonconforming, Priced}
-use Rattle.office_base.specs.declared.records.NoticeState.{NoticeState}
 use Rattle.office_base.specs.declared.records.NoticeState.TheVariants as notice
-use Rattle.office_base.specs.declared.records.LotState.{LotState}
 use Rattle.office_base.specs.declared.records.LotState.TheVariants as lot
-use Rattle.office_base.specs.declared.records.EnvelopeState.{EnvelopeState}
 use Rattle.office_base.specs.declared.records.EnvelopeState.TheVariants as envelope
-use Rattle.office_base.specs.declared.records.SecurityState.{SecurityState}
 use Rattle.office_base.specs.declared.records.SecurityState.TheVariants as security
-use Rattle.office_base.specs.declared.records.AwardState.{AwardState}
 use Rattle.office_base.specs.declared.records.AwardState.TheVariants as award
-use Rattle.office_base.specs.declared.records.EntryKind.{EntryKind}
 use Rattle.office_base.specs.declared.records.EntryKind.TheVariants as entry
-use Rattle.office_base.specs.declared.records.NoticeRow.{NoticeRow}
-use Rattle.office_base.specs.declared.records.LotRow.{LotRow}
-use Rattle.office_base.specs.declared.records.EnvelopeRow.{EnvelopeRow}
-use Rattle.office_base.specs.declared.records.SecurityRow.{SecurityRow}
-use Rattle.office_base.specs.declared.records.AwardRow.{AwardRow}
-use Rattle.office_base.specs.declared.records.ContractRow.{ContractRow}
-use Rattle.office_base.specs.declared.records.EntryRow.{EntryRow}
-use Rattle.office_base.specs.declared.records.PerformanceRow.{PerformanceRow}
-use Rattle.office_tables.specs.Values.{or_null, perhaps_in, text_or_null, perhaps_text_in, as_number, truth_in, perhaps_truth_in}
-use Rattle.office_tables.specs.Words.{notice_state_text, notice_state_in, lot_state_text, lot_state_in, envelope_state_text, envelope_state_in, security_state_text, security_state_in, award_state_text, award_state_in, how_text, how_in, entry_kind_text, entry_kind_in}
-use Rattle.office_tables.specs.Readings.{reading_word, stated_price, corrected_price, count_of_corrections, reading_in}
-use Rattle.office_tables.specs.ItemTexts.{items_text, items_in_text}
-use Rattle.office_tables.specs.Tables.Notices.{notice_values, notice_read, former_values, former_read, asks_nothing}
-use Rattle.office_tables.specs.Tables.Lots.{lot_values, lot_read}
-use Rattle.office_tables.specs.Tables.Envelopes.{envelope_values, envelope_read}
-use Rattle.office_tables.specs.Tables.Securities.{security_values, security_read}
-use Rattle.office_tables.specs.Tables.Awards.{award_values, award_read}
-use Rattle.office_tables.specs.Tables.Contracts.{contract_values, contract_read}
-use Rattle.office_tables.specs.Tables.Entries.{entry_values, entry_read}
-use Rattle.office_tables.specs.Tables.Performances.{performance_values, performance_read}
-use Rattle.sqlite_value.specs.declared.value.Value.TheVariants.{Int}
-use Rattle.std.specs.Prelude.{pos}
 
 perhaps_back : (o : Option ℕ) → perhaps_in (or_null o) ≡ o
 perhaps_back None = refl

@@ -1,28 +1,8 @@
 -- DELETE of the row of one key is `row_drop` of the table.
-use Rattle.std.proofs.Common.{◌≡◌, inl, inr, Bool, true, false, cond, List, [], ◌∷◌, ◌++◌, map, Some, None, refl, sym, ap, subst, ◌∙◌, Ordering, true≢false}
-use Rattle.std.proofs.lemmas.Bool.{cases_Bool}
-use Rattle.std.specs.List.Sorted.{IsPermutation}
-use Rattle.std.proofs.lemmas.List.Sorted.{IsPermutation-sym}
-use Rattle.std.specs.Cmp.{IsTotalOrder, tied_itself}
-use Rattle.std.specs.FinMap.{find, IsAntisymmetric}
-use Rattle.std.specs.Ordering.{is_eq, eq_by_cmp}
-use Rattle.sqlite_value.specs.declared.value.Value.{Value}
-use Rattle.sqlite_value.specs.Order.{Row}
-use Rattle.sqlite_trees.specs.Tree.{rowid, IsTable}
+use Rattle.office_tables.proofs.Names.{◌≡◌, inl, inr, Bool, true, false, cond, List, [], ◌∷◌, ◌++◌, map, Some, None, refl, sym, ap, subst, ◌∙◌, Ordering, true≢false, cases_Bool, IsPermutation, IsPermutation-sym, IsTotalOrder, tied_itself, IsAntisymmetric, is_eq, eq_by_cmp, Value, Row, rowid, IsTable, Env, Has, id_in, without_all, ids_of, all_has, all_from, row_at_is, left_or_taken, mapped_has, row_drop, equal_keys, IsKeyed, in_order-drop, row_at-row_drop, key_of, entry, rows_kept, AreKept, Stand}
+use Rattle.std.specs.FinMap.{find}
 use Rattle.sqlite_sql.specs.Query.{Output}
-use Rattle.sqlite_sql.specs.Term.{Env}
-use Rattle.sqlite_rules.specs.Lists.{Has}
-use Rattle.sqlite_rules.specs.Edit.{id_in, without_all}
-use Rattle.sqlite_rules.specs.Calls.{ids_of}
-use Rattle.sqlite_rules.proofs.ListLemmas.{all_has, all_from}
-use Rattle.sqlite_rules.proofs.PlaceLemmas.{row_at_is, left_or_taken}
-use Rattle.sqlite_rules.proofs.ProbeLemmas.{mapped_has}
 use Rattle.sqlite_rules.specs.Edit as edit
-use Rattle.office_base.specs.Rows.{row_drop}
-use Rattle.office_base.proofs.ExactKeys.{equal_keys}
-use Rattle.office_base.proofs.RowLaws.Keyed.{IsKeyed}
-use Rattle.office_base.proofs.RowLaws.Drops.{in_order-drop, row_at-row_drop}
-use Rattle.office_tables.specs.Kept.{key_of, entry, rows_kept, AreKept, Stand}
 use Rattle.office_tables.proofs.Sorted.{same_rows}
 use Rattle.office_tables.proofs.KeptRows.{found}
 use Rattle.office_tables.proofs.KeptRows.{finds, in_order-rows_kept}

@@ -1,23 +1,6 @@
 -- A new row that replaces the row with its key, if there is one, is `row_put` of the table.
-use Rattle.std.proofs.Common.{◌≡◌, inl, inr, ℤ, true, false, not, List, [], ◌∷◌, map, refl, sym, ap, ap₂, ◌∙◌, Ordering, true≢false}
-use Rattle.std.proofs.lemmas.Bool.{not-true}
-use Rattle.std.specs.Ordering.{is_eq}
-use Rattle.std.specs.Cmp.{IsTotalOrder, tied_itself}
-use Rattle.std.specs.FinMap.{IsAntisymmetric}
-use Rattle.office_base.specs.Rows.{row_put}
-use Rattle.sqlite_value.specs.declared.value.Value.{Value}
-use Rattle.sqlite_value.specs.Order.{Row, value_cmp}
-use Rattle.sqlite_value.proofs.OrderLemmas.{value_cmp_total}
-use Rattle.sqlite_trees.specs.Tree.{rowid, IsTable, has_rowid, put_row, without_rowid}
-use Rattle.sqlite_trees.specs.View.{is_int}
-use Rattle.sqlite_trees.proofs.ListLemmas.{ascending-filter}
-use Rattle.sqlite_trees.proofs.TreeLemmas.{IsTable-put_row}
-use Rattle.sqlite_rules.specs.Lists.{Has}
-use Rattle.sqlite_rules.specs.Edit.{id_in, without_all, is_taken, are_fresh, row_at}
-use Rattle.sqlite_rules.proofs.ListLemmas.{all_has, has_filtered}
-use Rattle.sqlite_rules.proofs.TableLemmas.{int_is, put_all_has, put_all_keeps, put_all_adds}
-use Rattle.sqlite_rules.proofs.PlaceLemmas.{row_at_is, left_or_taken}
-use Rattle.office_tables.specs.Kept.{key_of, rows_kept, AreKept, Stand}
+use Rattle.office_tables.proofs.Names.{◌≡◌, inl, inr, ℤ, true, false, not, List, [], ◌∷◌, map, refl, sym, ap, ap₂, ◌∙◌, Ordering, true≢false, not-true, is_eq, IsTotalOrder, tied_itself, IsAntisymmetric, row_put, Value, Row, value_cmp, value_cmp_total, rowid, IsTable, has_rowid, put_row, without_rowid, is_int, ascending-filter, IsTable-put_row, Has, id_in, without_all, is_taken, are_fresh, all_has, has_filtered, int_is, put_all_has, put_all_keeps, put_all_adds, row_at_is, left_or_taken, key_of, rows_kept, AreKept, Stand}
+use Rattle.sqlite_rules.specs.Edit.{row_at}
 use Rattle.office_tables.proofs.KeptRows.{IsPut, kept_put, put_is}
 
 pub left_from : (ids : List ℤ) (rows : List Row) (x : Row) → Has (without_all rows ids) x → Has rows x × ((id : ℤ) → Has ids id → has_rowid id x ≡ false)

@@ -1,34 +1,7 @@
 -- A SELECT .. ORDER BY over one table shows the rows that pass its tests, in their order.
-use Rattle.std.proofs.Common.{◌≡◌, inl, inr, ℕ, ◌≤◌, Bool, true, false, cond, List, [], ◌∷◌, ◌++◌, map, flat_map, filter, Option, Some, None, refl, sym, ap, subst, ◌∙◌, Ordering, arith}
-use Rattle.std.proofs.lemmas.Bool.{cases_Bool}
-use Rattle.std.proofs.lemmas.List.{length-map, map-set}
-use Rattle.std.proofs.Math.ListN.{get_or-map}
-use Rattle.std.specs.Prelude.{slice_set, slice_index_or, sum_by}
-use Rattle.std.specs.List.{AllByRecursion, list_all, swap}
-use Rattle.std.specs.List.Sorted.{IsPermutation, SwapsInRange, apply_swaps, IsSorted}
-use Rattle.std.proofs.lemmas.List.Sorted.{IsPermutation-sym, sum_by-IsPermutation}
-use Rattle.std.proofs.lemmas.List.Sums.{sum_by-cons}
-use Rattle.std.specs.Cmp.{IsTotalOrder, tied_itself}
-use Rattle.std.specs.Ordering.{is_lt, eq_by_cmp}
-use Rattle.std.specs.FinMap.{IsAntisymmetric}
-use Rattle.sqlite_value.specs.Order.{Row, value_cmp}
-use Rattle.sqlite_value.proofs.OrderLemmas.{value_cmp_total}
-use Rattle.sqlite_trees.specs.Tree.{rowid}
-use Rattle.sqlite_trees.proofs.ListLemmas.{all-permutation}
-use Rattle.sqlite_sql.specs.Term.{Env, holds}
-use Rattle.sqlite_sql.specs.Query.{Query, Output, IsAnswer, output, output_cmp}
-use Rattle.sqlite.specs.Program.{overlay}
-use Rattle.sqlite_trees.specs.Tree.{Trees}
-use Rattle.sqlite_value.specs.declared.value.Value.{Value}
-use Rattle.sqlite_rules.specs.Lists.{Has}
-use Rattle.sqlite_rules.proofs.ListLemmas.{all_has, all_from}
-use Rattle.office_base.specs.Rows.{row_at, IsInOrder}
-use Rattle.office_base.specs.Sums.{sum_over}
-use Rattle.office_tables.specs.Kept.{rows_kept, AreKept}
-use Rattle.office_base.proofs.ExactKeys.{equal_keys}
-use Rattle.office_base.proofs.RowLaws.Keyed.{IsKeyed}
-use Rattle.office_base.proofs.RowLaws.Found.{each_found}
-use Rattle.office_base.proofs.RowLaws.Filters.{if_passes, in_order-filter, row_at-filter}
+use Rattle.office_tables.proofs.Names.{◌≡◌, inl, inr, ℕ, ◌≤◌, Bool, true, false, cond, List, [], ◌∷◌, ◌++◌, map, flat_map, filter, Option, Some, None, refl, sym, ap, subst, ◌∙◌, Ordering, arith, cases_Bool, length-map, map-set, get_or-map, slice_set, slice_index_or, sum_by, AllByRecursion, list_all, swap, IsPermutation, SwapsInRange, apply_swaps, IsSorted, IsPermutation-sym, sum_by-IsPermutation, sum_by-cons, IsTotalOrder, tied_itself, is_lt, eq_by_cmp, IsAntisymmetric, Row, value_cmp, value_cmp_total, rowid, all-permutation, Env, holds, Query, IsAnswer, output, output_cmp, overlay, Trees, Value, Has, all_has, all_from, IsInOrder, sum_over, rows_kept, AreKept, equal_keys, IsKeyed, each_found, if_passes, in_order-filter, row_at-filter}
+use Rattle.sqlite_sql.specs.Query.{Output}
+use Rattle.office_base.specs.Rows.{row_at}
 use Rattle.office_tables.proofs.Sorted.{Climbs, climbs, count_at, in_order_from_sorted, same_members}
 use Rattle.office_tables.proofs.KeptRows.{found}
 use Rattle.office_tables.proofs.KeptRows.{finds, in_order-rows_kept}

@@ -1,32 +1,14 @@
 -- SELECT of columns of one table, by name: the texts of the office, and the queries that they mean.
-use Rattle.std.proofs.Common.{◌≡◌, ◌⊎◌, inl, inr, ◌∷◌, [], ◌+◌, ◌==◌, List, Ok, None, Some, Option, cond, pos, negsuc, refl, sym, ap, ◌∙◌, false, true, true≢false, Bool, ℕ, find, map}
-use Rattle.std.proofs.lemmas.Bool.{eqb-true, eq-eqb}
-use Rattle.sqlite_value.specs.declared.value.Value.TheVariants.{Int}
-use Rattle.sqlite_value.specs.declared.keys.Collation.TheVariants.{Binary}
-use Rattle.sqlite_value.specs.Keys.{ascending}
-use Rattle.sqlite_sql.specs.Term.{Term, lit, col, op2}
-use Rattle.sqlite_sql.specs.Query.{Query, inner, end}
-use Rattle.sqlite_sql.specs.declared.ops.BinaryOp.TheVariants.{Compare}
-use Rattle.sqlite_sql.specs.declared.ops.CompareOp.TheVariants.{Eq}
-use Rattle.sqlite_schema.specs.declared.schema.Schema.{Schema}
-use Rattle.sqlite_schema.specs.declared.schema.Table.{Table}
-use Rattle.sqlite_schema.specs.declared.schema.Column.{Column}
+use Rattle.office_tables.proofs.Names.{◌≡◌, ◌⊎◌, inl, inr, ◌∷◌, [], ◌+◌, ◌==◌, List, Ok, None, Some, Option, cond, pos, negsuc, refl, sym, ap, ◌∙◌, false, true, true≢false, Bool, ℕ, map, eqb-true, eq-eqb, Int, Binary, ascending, Term, lit, col, op2, Query, inner, end, Compare, Eq, Schema, Table, Column, Expr, place_has, Carried, max_budget, first, constant_or, accepts_program, IsIn, at_tree, lower}
+use Rattle.std.proofs.Common.{find}
 use Rattle.sqlite_schema.specs.declared.command.Command.TheVariants.{Select}
-use Rattle.sqlite_ast.specs.declared.Expr.{Expr}
 use Rattle.sqlite_ast.specs.declared.Statement.TheVariants as written
 use Rattle.sqlite_rules.specs.Lists.{Has as Holds}
-use Rattle.sqlite_catalog.proofs.AlterLemmas.{place_has}
-use Rattle.sqlite_resolve.specs.declared.state.Carried.{Carried}
-use Rattle.sqlite_resolve.specs.Lowering.{nothing, max_budget}
-use Rattle.sqlite_resolve.specs.Compile.{first}
-use Rattle.sqlite_resolve.specs.Select.{constant_or}
-use Rattle.sqlite_typing.specs.Types.{accepts_program}
-use Rattle.office_tables.specs.Known.{IsIn, at_tree}
+use Rattle.sqlite_resolve.specs.Lowering.{nothing}
 use Rattle.office_tables.proofs.Meanings.{StatementMeans, means_by, parsed_in}
 use Rattle.office_tables.proofs.Whole.{at_budget}
 use Rattle.office_tables.proofs.Simple.{capped, names_of, outputs_of, spent, left_by, Has, AreFree, scope, query_is, simple_compiles}
 use Rattle.sqlite_resolve.specs.declared.scope.Output.{Output}
-use Rattle.sqlite_resolve.specs.Expr.{lower}
 use Rattle.sqlite_resolve.specs.Body as body
 
 -- ---- the queries

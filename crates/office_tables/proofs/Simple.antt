@@ -1,50 +1,21 @@
 -- SELECT of columns of one table, by name, in the order of columns, without tests or with tests of columns against parameters.
-use Rattle.std.proofs.Common.{◌≡◌, ◌⊎◌, inl, inr, ◌∷◌, [], ◌++◌, ◌-◌, ◌==◌, List, Ok, None, Some, Option, cond, pos, negsuc, refl, sym, ap, subst, ◌∙◌, false, true, Bool, ℕ, suc, slice_get, nat_lt, map}
-use Rattle.sqlite_sql.specs.Term.{Term, col, op2}
-use Rattle.sqlite_sql.specs.declared.ops.BinaryOp.{BinaryOp}
+use Rattle.office_tables.proofs.Names.{◌≡◌, ◌⊎◌, inl, inr, ◌∷◌, [], ◌++◌, ◌-◌, ◌==◌, List, Ok, None, Some, Option, cond, pos, negsuc, refl, sym, ap, subst, ◌∙◌, false, true, Bool, ℕ, suc, slice_get, nat_lt, map, Term, col, op2, BinaryOp, Key, Binary, Schema, Table, Column, column_named, place_of, Expr, out-Expr, roll-Expr, Expr-F, Shown-F, out-Shown, roll-Shown, out-Source, roll-Source, Core, out-Core, roll-Core, out-roll-Core, roll-Select, out-roll-Select, Sort, roll-Sort, out-roll-Sort, Carried, Affinity, Name, Context, declared, alias_of, alone, chosen, compared, affinity_of, of_column, of_declared, converted, spelled, may_be_text, lower, lower_to, number, everything, table_named, Int, lit, Query, inner, end, Inner, Draft, accepts_program, Parsed, max_budget, program, first}
 use Rattle.sqlite_sql.specs.declared.ops.BinaryOp.TheVariants as by
 use Rattle.sqlite_sql.specs.declared.ops.CompareOp.TheVariants as compare
-use Rattle.sqlite_value.specs.declared.keys.Key.{Key}
-use Rattle.sqlite_value.specs.declared.keys.Collation.TheVariants.{Binary}
-use Rattle.sqlite_schema.specs.declared.schema.Schema.{Schema}
-use Rattle.sqlite_schema.specs.declared.schema.Table.{Table}
-use Rattle.sqlite_schema.specs.declared.schema.Column.{Column}
-use Rattle.sqlite_schema.specs.Names.{column_named, place_of}
 use Rattle.sqlite_ast.specs.declared.Binary.TheVariants as binary
 use Rattle.sqlite_ast.specs.declared.Origin.TheVariants as origin
-use Rattle.sqlite_ast.specs.declared.Expr.{Expr, out-Expr, roll-Expr}
-use Rattle.sqlite_ast.specs.declared.Expr.TheOpen.{Expr-F, Shown-F}
-use Rattle.sqlite_ast.specs.declared.Shown.{Shown, out-Shown, roll-Shown}
-use Rattle.sqlite_ast.specs.declared.Source.{Source, out-Source, roll-Source}
-use Rattle.sqlite_ast.specs.declared.Core.{Core, out-Core, roll-Core, out-roll-Core}
-use Rattle.sqlite_ast.specs.declared.Select.{Select, roll-Select, out-roll-Select}
-use Rattle.sqlite_ast.specs.declared.Sort.{Sort, roll-Sort, out-roll-Sort}
-use Rattle.sqlite_resolve.specs.declared.state.Carried.{Carried}
+use Rattle.sqlite_ast.specs.declared.Shown.{Shown}
+use Rattle.sqlite_ast.specs.declared.Source.{Source}
+use Rattle.sqlite_ast.specs.declared.Select.{Select}
 use Rattle.sqlite_resolve.specs.declared.scope.Output.{Output}
-use Rattle.sqlite_resolve.specs.declared.compare.Affinity.{Affinity}
 use Rattle.sqlite_resolve.specs.declared.compare.Affinity.TheVariants as affinity
-use Rattle.sqlite_resolve.specs.Scope.{Name, Context, declared, alias_of}
-use Rattle.sqlite_resolve.specs.Lowering.{nothing, alone, chosen}
-use Rattle.sqlite_resolve.specs.Compare.{compared, affinity_of, of_column, of_declared, converted, spelled, may_be_text}
-use Rattle.sqlite_resolve.specs.Expr.{lower, lower_to}
+use Rattle.sqlite_resolve.specs.Lowering.{nothing}
 use Rattle.sqlite_resolve.specs.Body as body
 use Rattle.sqlite_resolve.specs.Order as order
 use Rattle.sqlite_resolve.specs.Select as select
-use Rattle.sqlite_resolve.specs.Terms.{number}
-use Rattle.sqlite_tied.specs.Compute.{everything}
-use Rattle.sqlite_schema.specs.Names.{table_named}
-use Rattle.sqlite_value.specs.declared.value.Value.TheVariants.{Int}
-use Rattle.sqlite_sql.specs.Term.{lit}
-use Rattle.sqlite_sql.specs.Query.{Query, inner, end}
-use Rattle.sqlite_draft.specs.declared.join.Step.TheVariants.{Inner}
-use Rattle.sqlite_draft.specs.declared.query.Draft.{Draft}
-use Rattle.sqlite_typing.specs.Types.{accepts_program}
 use Rattle.sqlite_ast.specs.declared.Statement.TheVariants as written
-use Rattle.sqlite_syntax.specs.declared.statement.Parsed.{Parsed}
 use Rattle.sqlite_resolve.specs.declared.compiled.Compiled.{Compiled}
-use Rattle.sqlite_resolve.specs.Lowering.{max_budget}
-use Rattle.sqlite_resolve.specs.Program.{program}
-use Rattle.sqlite_resolve.specs.Compile.{first, compiled}
+use Rattle.sqlite_resolve.specs.Compile.{compiled}
 use Rattle.office_tables.proofs.Whole.{at_budget, compiled_to, compiles, draft_of, pages_by}
 use Rattle.office_tables.proofs.OneTable.{bounds_are, joins_are, sources_are}
 use Rattle.office_tables.proofs.LoweredColumns.{here, among_one, lower_is, then_shown, then_sorted}

@@ -1,16 +1,6 @@
 -- Rows in the order of their keys are determined by their look-ups, and are the result of a sort.
-use Rattle.std.proofs.Common.{◌≡◌, ℕ, suc, slice_index_or, ◌+◌, ◌≤◌, false, cond, List, [], ◌∷◌, Option, Some, None, refl, sym, ◌∙◌, ap, subst, arith}
-use Rattle.std.specs.List.{AllByRecursion}
-use Rattle.std.specs.List.Sorted.{IsSorted}
-use Rattle.std.specs.Cmp.{tied_itself}
-use Rattle.std.specs.Ordering.{is_eq, is_lt, eq_by_cmp, ordering_reverse}
-use Rattle.std.specs.declared.cmp.Ordering.{Ordering}
-use Rattle.std.specs.declared.cmp.Ordering.TheVariants.{Less, Equal, Greater}
-use Rattle.office_base.specs.Rows.{by_order, row_at, IsInOrder}
-use Rattle.office_base.specs.Sums.{sum_over}
-use Rattle.office_base.proofs.RowLaws.Keyed.{IsKeyed, own_key, found_key}
-use Rattle.office_base.proofs.RowLaws.Starts.{above, tied, none_below}
-use Rattle.office_base.proofs.RowLaws.Found.{of_found}
+use Rattle.office_tables.proofs.Names.{◌≡◌, ℕ, suc, slice_index_or, ◌+◌, ◌≤◌, false, cond, List, [], ◌∷◌, Option, Some, None, refl, sym, ◌∙◌, ap, subst, arith, AllByRecursion, IsSorted, tied_itself, is_eq, is_lt, eq_by_cmp, ordering_reverse, Ordering, Less, Equal, Greater, by_order, IsInOrder, sum_over, IsKeyed, own_key, found_key, above, tied, none_below, of_found}
+use Rattle.office_base.specs.Rows.{row_at}
 
 -- no element is less than the one before it
 abbrev pub Climbs : {X : Type 0} → (X → X → Ordering) → List X → Type 0

@@ -1,17 +1,6 @@
 -- Lists of statements that were run, and one that failed.
-use Rattle.std.proofs.Common.{◌≡◌, ◌∙◌, ◌⊎◌, inl, inr, ℕ, ◌≤◌, Bool, true, false, cond, List, [], ◌∷◌, ◌++◌, Ok, Err, refl, sym, ap, subst, append_assoc, arith}
-use Rattle.std.proofs.lemmas.Bool.{cases_Bool}
-use Rattle.std.specs.Prelude.{nat_lt}
-use Rattle.sqlite_value.specs.Order.{Row}
-use Rattle.sqlite_trees.specs.declared.store.Store.{Ghosts}
-use Rattle.sqlite.specs.Held.{Held, state}
-use Rattle.sqlite.specs.State.{ExecutesInside, IsNotRun}
-use Rattle.sqlite.specs.declared.error.Error.{Error}
-use Rattle.office_base.specs.declared.records.ClockRow.{ClockRow}
-use Rattle.office_tables.specs.Earlier.{DropsFormer, Renews, drop_notices, drop_version, had_former}
-use Rattle.office_tables.specs.Statements.{FirstFails, OneFails, RunAll, Statement, creates, drops, renewal}
-use Rattle.office_tables.specs.Tables.Office.{clock_values, upsert_office}
-use Rattle.office_tables.specs.Version.{get_version}
+use Rattle.office_tables.proofs.Names.{◌≡◌, ◌∙◌, ◌⊎◌, inl, inr, ℕ, ◌≤◌, Bool, true, false, cond, List, [], ◌∷◌, ◌++◌, Ok, Err, refl, sym, ap, subst, append_assoc, arith, cases_Bool, nat_lt, Row, Ghosts, Held, state, ExecutesInside, IsNotRun, Error, ClockRow, DropsFormer, Renews, drop_notices, drop_version, had_former, FirstFails, OneFails, RunAll, drops, renewal, clock_values, upsert_office, get_version}
+use Rattle.office_tables.specs.Statements.{Statement, creates}
 use Rattle.office_tables.proofs.LaterTables.{LaterLine}
 
 module _ {S : Type 0} (g : Ghosts S) where

@@ -1,10 +1,6 @@
 -- The state of a transaction after some statements.
-use Rattle.std.proofs.Common.{◌⊎◌, inl, inr, ℕ, Err, Ok, Result, List}
-use Rattle.std.specs.Prelude.{OnErr, OnOk}
-use Rattle.sqlite_value.specs.Order.{Row}
-use Rattle.sqlite.specs.declared.error.Error.{Error}
-use Rattle.sqlite.specs.State.{State, IsUnchanged, IsRolledBack, ExecutesInside}
-use Rattle.office_tables.specs.Steps.{Refused}
+use Rattle.office_tables.proofs.Names.{◌⊎◌, inl, inr, ℕ, Err, Ok, Result, List, OnErr, OnOk, Row, Error, IsUnchanged, IsRolledBack, ExecutesInside, Refused}
+use Rattle.sqlite.specs.State.{State}
 
 pub on_err : {A E : Type 0} (r : Result A E) (P : Type 0) → P → OnErr r P
 on_err (Ok a) P h = tt

@@ -45,15 +45,7 @@ pub use Rattle.office_tables.proofs.Upserts.{Shape, behind_rowid, at_rowid}
 pub use Rattle.office_tables.proofs.Writes.{IsStored, with_rows}
 pub use Rattle.office_tables.proofs.CreateTexts.{ReadsTable, ReadsIndex, creates_it, indexes_it}
 pub use Rattle.office_tables.proofs.Deletes.{IsDelete, delete_means}
-use Rattle.std.proofs.Common.{length}
-use Rattle.sqlite_schema.specs.declared.command.Command.TheVariants.{InsertOr}
-use Rattle.sqlite_schema.specs.declared.command.Conflict.TheVariants.{Abort}
-use Rattle.sqlite_schema.specs.declared.command.Source.TheVariants.{Values}
-use Rattle.sqlite_typing.specs.Types.{accepts_program}
-use Rattle.office_base.specs.declared.puts.Put.{Put}
-use Rattle.office_tables.specs.Forms.{Form}
-use Rattle.office_tables.specs.Making.{IsCreate}
-use Rattle.office_tables.specs.Schema.{table_of, create_of}
+use Rattle.office_tables.proofs.Names.{length, InsertOr, Abort, Values, accepts_program, Put, Form, IsCreate, table_of, create_of}
 use Rattle.office_tables.proofs.Keyed.{HasKey}
 use Rattle.office_tables.proofs.Upserts.{IsUpsert, InsertsRows, NamesKey, Updates, updating, on_conflict, upserts_mean}
 use Rattle.office_tables.proofs.Writes.{IsBare}

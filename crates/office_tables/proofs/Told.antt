@@ -1,20 +1,5 @@
 -- Trees hold one office alone.
-use Rattle.std.proofs.Common.{◌≡◌, Some, sym, ap, subst, ◌∙◌, slice_get, filter, ℕ}
-use Rattle.std.specs.List.{position_from, AllZip}
-use Rattle.sqlite_value.specs.Order.{Row}
-use Rattle.sqlite_trees.specs.Tree.{Trees}
-use Rattle.sqlite_trees.specs.Objects.{catalog_tree}
-use Rattle.sqlite_schema.specs.declared.schema.Table.{Table}
-use Rattle.sqlite_schema.specs.declared.schema.Schema.{Schema}
-use Rattle.sqlite_schema.specs.Names.{same_name}
-use Rattle.sqlite_catalog.specs.Listing.{IsTableRow, ReadsTable, is_table_row}
-use Rattle.sqlite_catalog.proofs.ListFacts.{zip_so}
-use Rattle.sqlite_catalog.proofs.ReadLemmas.{tables_once}
-use Rattle.sqlite.specs.Effect.{Database, IsDatabase}
-use Rattle.office_base.specs.Tables.{Tables}
-use Rattle.office_tables.specs.Schema.{OfficeTable, table_of, StandFor}
-use Rattle.office_tables.specs.Known.{IsIn, at_tree}
-use Rattle.office_tables.specs.Standing.{Holds}
+use Rattle.office_tables.proofs.Names.{◌≡◌, Some, sym, ap, subst, ◌∙◌, slice_get, filter, ℕ, position_from, AllZip, Row, Trees, catalog_tree, Table, Schema, same_name, IsTableRow, ReadsTable, is_table_row, zip_so, tables_once, Database, IsDatabase, Tables, OfficeTable, table_of, StandFor, IsIn, at_tree, Holds}
 use Rattle.office_tables.proofs.Each.{one_content}
 
 reads : (row : Row) (t : Table) → IsTableRow row t → ReadsTable row t

@@ -1,24 +1,6 @@
 -- An INSERT .. ON CONFLICT (key) DO UPDATE of one row changes its own table alone, and leaves tables apart as they are.
-use Rattle.std.proofs.Common.{◌≡◌, ◌≢◌, ◌⊎◌, inl, inr, ℕ, ℤ, true, false, cond, List, [], ◌∷◌, ◌++◌, ◌/◌, length, map, drop, Option, Some, None, Ok, Err, Result, refl, sym, ap, subst, ◌∙◌}
-use Rattle.sqlite_value.specs.Order.{Row}
-use Rattle.sqlite_trees.specs.Tree.{Trees, rowid}
-use Rattle.sqlite_sql.specs.Term.{Term}
-use Rattle.sqlite_schema.specs.declared.command.Source.TheVariants.{Values}
-use Rattle.sqlite_schema.specs.declared.command.Conflict.TheVariants.{Abort}
-use Rattle.sqlite_schema.specs.declared.command.Upsert.{Upsert}
-use Rattle.sqlite_schema.specs.declared.program.Program.{Program}
-use Rattle.sqlite_rules.specs.declared.error.Refusal.{Refusal}
-use Rattle.sqlite_rules.specs.declared.error.Rowids.TheVariants.{Chosen, Above, Given}
-use Rattle.sqlite_rules.specs.Cast.{cast_row}
-use Rattle.sqlite_rules.specs.Keys.{AreConflicts}
-use Rattle.sqlite_rules.specs.Edit.{edit_of, with_rowid, numbered, without_all, put_all, are_fresh}
-use Rattle.sqlite_rules.specs.Calls.{ids_of}
-use Rattle.sqlite.specs.Effect.{Answers, value_rows}
-use Rattle.sqlite.specs.Rows.{Task, Written, Clears, Puts, Meets, Upserts, Judged, Tries, TriesEach, InsertsOr, Counts, count_of, nothing, rowids_for, shown, stamped}
-use Rattle.std.specs.List.{AllByRecursion}
-use Rattle.sqlite_rules.specs.Lists.{Has}
-use Rattle.sqlite_rules.proofs.ActionLemmas.{no_works}
-use Rattle.sqlite.proofs.Callers.{one_step}
+use Rattle.office_tables.proofs.Names.{◌≡◌, ◌≢◌, ◌⊎◌, inl, inr, ℕ, ℤ, true, false, cond, List, [], ◌∷◌, ◌++◌, ◌/◌, length, map, drop, Option, Some, None, Ok, Err, Result, refl, sym, ap, subst, ◌∙◌, Row, Trees, rowid, Term, Values, Abort, Upsert, Program, Refusal, Chosen, Above, Given, cast_row, AreConflicts, edit_of, with_rowid, numbered, without_all, put_all, are_fresh, ids_of, Answers, value_rows, Task, Written, Clears, Meets, Upserts, Judged, Tries, TriesEach, InsertsOr, Counts, count_of, rowids_for, shown, stamped, AllByRecursion, Has, no_works, one_step}
+use Rattle.sqlite.specs.Rows.{Puts, nothing}
 use Rattle.office_tables.proofs.Childless.{IsOwn, SparesMarked, writes}
 
 -- a part that returned a value didn't stop on the way

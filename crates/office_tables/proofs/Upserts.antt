@@ -1,37 +1,14 @@
 -- INSERT .. ON CONFLICT (key) DO UPDATE of one row, in any schema that has its table.
-use Rattle.std.proofs.Common.{◌≡◌, [], ◌∷◌, ◌++◌, ◌+◌, ◌-◌, ◌==◌, List, Ok, None, Some, pos, negsuc, refl, ℕ, length, false, true, slice_get, map}
-use Rattle.std.specs.List.{range_with_len}
-use Rattle.sqlite_value.specs.declared.value.Value.TheVariants.{Int, Null}
-use Rattle.sqlite_value.specs.declared.keys.Collation.TheVariants.{Binary}
-use Rattle.sqlite_sql.specs.Term.{Term, lit, col, op2}
-use Rattle.sqlite_sql.specs.Query.{Query, inner, end}
-use Rattle.sqlite_sql.specs.declared.ops.BinaryOp.TheVariants.{Compare}
-use Rattle.sqlite_sql.specs.declared.ops.CompareOp.TheVariants.{Eq}
-use Rattle.sqlite_schema.specs.declared.schema.Schema.{Schema}
-use Rattle.sqlite_schema.specs.declared.schema.Table.{Table}
-use Rattle.sqlite_schema.specs.declared.program.Program.{Program}
+use Rattle.office_tables.proofs.Names.{◌≡◌, [], ◌∷◌, ◌++◌, ◌+◌, ◌-◌, ◌==◌, List, Ok, None, Some, pos, negsuc, refl, ℕ, length, false, true, slice_get, map, range_with_len, Int, Null, Binary, Term, lit, col, op2, Query, inner, end, Compare, Eq, Schema, Table, Program, Upsert, InsertOr, Abort, table_named, Draft, chain, Inner, Rows, Parsed, accepts_program, places, upserts, upsert, update, do_update, key_meant, first, planned, meaning, returning, shows, command, insert_or_abort, insert_or, new_rows, small, IsIn, at_tree}
 use Rattle.sqlite_schema.specs.declared.command.Source.{Source}
-use Rattle.sqlite_schema.specs.declared.command.Upsert.{Upsert}
-use Rattle.sqlite_schema.specs.declared.command.Command.TheVariants.{InsertOr}
-use Rattle.sqlite_schema.specs.declared.command.Conflict.TheVariants.{Abort}
-use Rattle.sqlite_schema.specs.Names.{table_named}
-use Rattle.sqlite_draft.specs.declared.query.Draft.{Draft}
-use Rattle.sqlite_draft.specs.Join.{chain}
-use Rattle.sqlite_draft.specs.declared.join.Step.TheVariants.{Inner}
 use Rattle.sqlite_ast.specs.declared.Upsert as written_clause
 use Rattle.sqlite_ast.specs.declared.Conflict.TheVariants as conflict
-use Rattle.sqlite_ast.specs.declared.Rows.{Rows}
 use Rattle.sqlite_ast.specs.declared.Rows.TheVariants as rows_of
 use Rattle.sqlite_ast.specs.declared.Statement.{Statement}
 use Rattle.sqlite_ast.specs.declared.Statement.TheVariants as written
-use Rattle.sqlite_syntax.specs.declared.statement.Parsed.{Parsed}
-use Rattle.sqlite_typing.specs.Types.{accepts_program}
 use Rattle.sqlite_resolve.specs.declared.compiled.Compiled.{Compiled}
 use Rattle.sqlite_resolve.specs.Program as program
-use Rattle.sqlite_resolve.specs.Write.{places}
-use Rattle.sqlite_resolve.specs.Given.{upserts, upsert, update, do_update, key_meant}
-use Rattle.sqlite_resolve.specs.Compile.{first, compiled, planned, meaning, timed, returning, shows, command, insert_or_abort, insert_or, new_rows, small}
-use Rattle.office_tables.specs.Known.{IsIn, at_tree}
+use Rattle.sqlite_resolve.specs.Compile.{compiled, timed}
 use Rattle.office_tables.proofs.Keyed.{HasKey, key_at_is}
 use Rattle.office_tables.proofs.Meanings.{StatementMeans, means_by, parsed_in}
 

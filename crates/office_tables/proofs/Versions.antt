@@ -1,26 +1,9 @@
 -- In an office the query for its version is understood, and the version is the answer.
-use Rattle.std.proofs.Common.{◌≡◌, ◌⊎◌, inl, inr, ℕ, List, [], Option, Some, None, Ok, Err, Result, true, refl, sym, ap, subst, ◌∙◌, IsTrue}
-use Rattle.std.specs.Prelude.{IfOk, IfErr}
-use Rattle.sqlite_value.specs.Order.{Row}
-use Rattle.sqlite_trees.specs.declared.error.StoreError.{StoreError}
+use Rattle.office_tables.proofs.Names.{◌≡◌, ◌⊎◌, inl, inr, ℕ, List, [], Option, Some, None, Ok, Err, Result, true, refl, sym, ap, subst, ◌∙◌, IsTrue, IfOk, IfErr, Row, StoreError, Ghosts, Returning, Command, Program, CompileError, Error, SqlInputError, InvalidQuery, Database, RefusesToRead, Held, state, understood, FailsToQuery, FailsToShow, IsTooLate, IsNotRun, IsNoStatement, store_error, IsPlain, command_of, ClockRow, IsAsked, IsRefusal, get_version, one_version, HasVersion, ShowsVersion}
 use Rattle.sqlite_trees.specs.declared.error.StoreError.TheVariants as stores
-use Rattle.sqlite_trees.specs.declared.store.Store.{Ghosts}
-use Rattle.sqlite_schema.specs.declared.command.Returning.{Returning}
-use Rattle.sqlite_schema.specs.declared.command.Command.{Command}
 use Rattle.sqlite_schema.specs.declared.command.Command.TheVariants.{Select}
-use Rattle.sqlite_schema.specs.declared.program.Program.{Program}
 use Rattle.sqlite_resolve.specs.declared.compiled.Compiled.{Compiled}
-use Rattle.sqlite_resolve.specs.declared.error.CompileError.{CompileError}
-use Rattle.sqlite.specs.declared.error.Error.{Error}
-use Rattle.sqlite.specs.declared.error.Error.TheVariants.{SqlInputError, InvalidQuery}
-use Rattle.sqlite.specs.Effect.{Database, RefusesToRead}
-use Rattle.sqlite.specs.Held.{Held, state}
-use Rattle.sqlite.specs.Listing.{understood}
-use Rattle.sqlite.specs.State.{State, FailsToQuery, FailsToShow, IsTooLate, IsNotRun, IsNoStatement, store_error}
-use Rattle.sqlite.proofs.Callers.{IsPlain, command_of}
-use Rattle.office_base.specs.declared.records.ClockRow.{ClockRow}
-use Rattle.office_tables.specs.Steps.{IsAsked, IsRefusal}
-use Rattle.office_tables.specs.Version.{get_version, one_version, HasVersion, ShowsVersion}
+use Rattle.sqlite.specs.State.{State}
 use Rattle.office_tables.proofs.ByTable.Office.{get_version_means, select_get_version}
 
 store_no_input : (cause : StoreError) (why : CompileError) → store_error cause ≡ SqlInputError why → ⊥

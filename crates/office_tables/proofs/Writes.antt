@@ -1,55 +1,11 @@
 -- The put of one record into one table of the office.
-use Rattle.std.proofs.Common.{◌≡◌, ◌≢◌, inl, inr, ℕ, ℤ, true, false, not, cond, ◌&&◌, List, [], ◌∷◌, ◌++◌, map, drop, Option, None, Some, Ok, refl, sym, ap, ap₂, subst, subst₂, ◌∙◌, slice_get, true≢false}
-use Rattle.std.specs.Prelude.{bytes_eq, length, ◌/◌}
-use Rattle.std.specs.declared.cmp.Ordering.{Ordering}
-use Rattle.std.specs.Cmp.{IsTotalOrder}
-use Rattle.std.specs.FinMap.{IsAntisymmetric}
-use Rattle.std.specs.List.{AllByRecursion}
-use Rattle.std.specs.List.Sorted.{IsPermutation}
-use Rattle.std.specs.Ordering.{is_eq}
-use Rattle.std.proofs.lemmas.Slice.Eq.{bytes_eq-Decides}
-use Rattle.std.proofs.lemmas.Bool.{cases_Bool, and_parts, not-true}
-use Rattle.sqlite_value.specs.declared.value.Value.{Value}
-use Rattle.sqlite_value.specs.declared.value.Value.TheVariants.{Null, Int}
-use Rattle.sqlite_value.specs.declared.keys.Collation.TheVariants.{Binary}
-use Rattle.sqlite_value.specs.Order.{Row, column, value_cmp}
-use Rattle.sqlite_value.specs.Keys.{plain}
-use Rattle.sqlite_trees.specs.Tree.{Trees, rowid, put_row}
-use Rattle.sqlite_trees.specs.View.{is_int}
-use Rattle.sqlite_sql.specs.Term.{Term}
-use Rattle.sqlite_sql.specs.Query.{Output, output}
-use Rattle.sqlite_schema.specs.declared.schema.Keys.TheVariants.{Enforced}
-use Rattle.sqlite_schema.specs.declared.schema.Schema.{Schema}
-use Rattle.sqlite_schema.specs.declared.schema.Table.{Table}
-use Rattle.sqlite_schema.specs.declared.program.Program.{Program}
-use Rattle.sqlite_schema.specs.declared.command.Command.{Command}
-use Rattle.sqlite_schema.specs.declared.command.Command.TheVariants.{InsertOr}
-use Rattle.sqlite_schema.specs.declared.command.Conflict.TheVariants.{Abort}
-use Rattle.sqlite_schema.specs.declared.command.Source.TheVariants.{Values}
-use Rattle.sqlite_schema.specs.Rules.{agree, equal}
-use Rattle.sqlite_schema.specs.Names.{table_named}
-use Rattle.sqlite_rules.specs.declared.error.Rowids.TheVariants.{Chosen, Given}
-use Rattle.sqlite_rules.specs.Lists.{Has}
-use Rattle.sqlite_rules.specs.Cast.{cast_row}
-use Rattle.sqlite_rules.specs.Keys.{AreConflicts, conflicts}
-use Rattle.sqlite_rules.specs.Edit.{id_in, with_rowid, next_rowid, without_all, put_all, is_taken, are_fresh, numbered as numbered_rows}
-use Rattle.sqlite_rules.specs.Calls.{ids_of}
-use Rattle.sqlite_rules.proofs.ListLemmas.{all_has}
-use Rattle.sqlite_rules.proofs.TableLemmas.{int_is}
-use Rattle.sqlite_catalog.proofs.AlterLemmas.{place_has}
-use Rattle.sqlite.specs.Effect.{Database, IsDatabase, value_rows}
-use Rattle.sqlite.specs.Rows.{Task, Written, InsertsOr, shown, stamped}
-use Rattle.sqlite.specs.Does.{Tally, AtPlace, OnRows, Does}
-use Rattle.sqlite.specs.Listing.{understood}
-use Rattle.sqlite.specs.State.{State, mode_of, Executes, text_of}
-use Rattle.sqlite.specs.declared.run.Mode.{Mode}
+use Rattle.office_tables.proofs.Names.{◌≡◌, ◌≢◌, inl, inr, ℕ, ℤ, true, false, not, cond, ◌&&◌, List, [], ◌∷◌, ◌++◌, map, drop, Option, None, Some, Ok, refl, sym, ap, ap₂, subst, subst₂, ◌∙◌, slice_get, true≢false, bytes_eq, length, ◌/◌, Ordering, IsTotalOrder, IsAntisymmetric, AllByRecursion, IsPermutation, is_eq, bytes_eq-Decides, cases_Bool, and_parts, not-true, Value, Null, Int, Binary, Row, value_cmp, plain, Trees, rowid, put_row, is_int, Term, output, Enforced, Schema, Table, Program, Command, InsertOr, Abort, Values, agree, equal, table_named, Chosen, Given, Has, cast_row, AreConflicts, conflicts, id_in, with_rowid, next_rowid, without_all, put_all, is_taken, are_fresh, ids_of, all_has, int_is, place_has, Database, IsDatabase, value_rows, Task, Written, InsertsOr, shown, stamped, Tally, AtPlace, OnRows, Does, understood, mode_of, Executes, text_of, Mode, runs_as, command_of, IsPlain, row_put, OfficeTable, table_of, IsIn, at_tree, Places, HasTables, Form, key_of, AreKept, Stand}
+use Rattle.sqlite_value.specs.Order.{column}
+use Rattle.sqlite_sql.specs.Query.{Output}
+use Rattle.sqlite_rules.specs.Edit.{numbered as numbered_rows}
+use Rattle.sqlite.specs.State.{State}
 use Rattle.sqlite_resolve.specs.declared.compiled.Compiled.{Compiled}
-use Rattle.sqlite.proofs.Callers.{runs_as, command_of, IsPlain}
-use Rattle.office_base.specs.Rows.{row_put}
-use Rattle.office_tables.specs.Schema.{OfficeTable, table_of}
-use Rattle.office_tables.specs.Known.{IsIn, at_tree, Places, HasTables}
-use Rattle.office_tables.specs.Forms.{Form}
-use Rattle.office_tables.specs.Kept.{key_of, rows_kept as table_of_rows, AreKept, Stand}
+use Rattle.office_tables.specs.Kept.{rows_kept as table_of_rows}
 use Rattle.office_tables.proofs.Childless.{IsOwn, SparesMarked, spared_own}
 use Rattle.office_tables.proofs.Keyed.{HasKey, conflicts_key}
 use Rattle.office_tables.proofs.Cells.{and_true}

@@ -1,27 +1,10 @@
 -- One connection, and the printed texts.
-use Rattle.std.proofs.Common.{◌≡◌, ℕ, ◌==◌, Bool, true, List, [], Option, Some, None, Result, Ok, Err, if◌then◌else◌, refl, sym, ap, subst, ◌∙◌}
-use Rattle.std.specs.Prelude.{⊤, IfErr, IfSome, OnErr, OnOk}
-use Rattle.std.specs.Io.Buffered.{reader_buffer, reader_capacity, reader_inner, reader_remaining}
-use Rattle.std.specs.Io.KnownBytes.{Appends, prepend_known}
-use Rattle.std.specs.declared.io.buffered.BufReader.{BufReader}
-use Rattle.office_commands.specs.declared.queries.Query.{Query}
+use Rattle.procure_programs.proofs.Names.{◌≡◌, ℕ, ◌==◌, Bool, true, List, [], Option, Some, None, Result, Ok, Err, if◌then◌else◌, refl, sym, ap, subst, ◌∙◌, ⊤, IfErr, IfSome, OnErr, OnOk, reader_buffer, reader_capacity, reader_inner, reader_remaining, Appends, prepend_known, BufReader, Query, Meaning, Tables, DeskOf, IsRefused, AppendsPart, WriterView, Served, RunFault, StandsAs, fault_text, office_answers, StepsAreKept, WentThrough, ProgramFault, Arguments, Store, Input, Output, Refused, IsOfPrinting, IsPrinted, IsOfOffice, IsSeenWhole, IsShown, AnswersConnection, EndsConnection}
 use Rattle.office_values.specs.declared.settings.Settings.{Settings as OfficeSettings}
-use Rattle.office_base.specs.Shelves.{Meaning}
-use Rattle.office_base.specs.Tables.{Tables}
-use Rattle.office_desk.specs.Desks.{DeskOf}
-use Rattle.office_wire.specs.Request.{IsRefused}
-use Rattle.office_wire.specs.Sending.{AppendsPart, WriterView}
-use Rattle.office_wire.specs.Runs.{Served}
 use Rattle.office_wire.specs.declared.fault.ReadFault.TheVariants as fault
-use Rattle.office_wire.specs.declared.fault.RunFault.{RunFault}
 use Rattle.office_wire.specs.declared.fault.RunFault.TheVariants as ends
-use Rattle.office_http.specs.Answering.{Held, StandsAs, fault_text, office_answers}
-use Rattle.office_http.specs.Joined.{StepsAreKept}
-use Rattle.office_http.specs.Runs.{WentThrough}
-use Rattle.procure_config.specs.declared.fault.ProgramFault.{ProgramFault}
-use Rattle.procure_config.specs.declared.fault.ProgramFault.TheVariants.{Arguments, Settings, Store, Input, Output, Refused}
-use Rattle.procure_programs.specs.Showing.{IsOfPrinting, IsPrinted, IsOfOffice, IsSeenWhole, IsShown}
-use Rattle.procure_programs.specs.Turns.{AnswersConnection, EndsConnection}
+use Rattle.office_http.specs.Answering.{Held}
+use Rattle.procure_config.specs.declared.fault.ProgramFault.TheVariants.{Settings}
 use Rattle.procure_programs.proofs.ServingSteps.{stops_none}
 
 -- ---- a buffer over a reader

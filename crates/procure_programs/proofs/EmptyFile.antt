@@ -1,27 +1,6 @@
 -- The bytes of an empty database are a file of one page, which the ported `sqlite` opens as a database with no table.
-use Rattle.std.proofs.Common.{◌≡◌, ℕ, List, [], length, take, Some, None, refl, sym, ap, ◌∙◌, true, inl, inr, arith, ne_eqb}
-use Rattle.std.proofs.lemmas.Bool.{cases_eq, cond-false}
+use Rattle.procure_programs.proofs.Names.{◌≡◌, ℕ, List, [], length, take, Some, None, refl, sym, ap, ◌∙◌, true, inl, inr, arith, ne_eqb, cases_eq, cond-false, Table, IsPage, page_cells, cell_count, content_start, empty_page, Image, AreWhole, only_page, IsPageSize, pages_of_one, first_page, IsHeader, IsFirstPage, IsNew, version_in, in_use, Recovers, sealed, trimmed, first_new, adopts_of, trees_in, all_trees, file_trees, IsOurs, catalog_rows, past_version, named_tree, new_is_empty, empty_is_sound, empty_database, HoldNoTable}
 use mathlib.Core.Path.{fun_ext}
-use Rattle.sqlite_format.specs.declared.kind.Tree.TheVariants.{Table}
-use Rattle.sqlite_format.specs.Page.{IsPage, page_cells, cell_count, content_start}
-use Rattle.sqlite_format.proofs.PageLemmas.{empty_page}
-use Rattle.sqlite_wal.specs.Recovery.{Image, AreWhole, only_page}
-use Rattle.sqlite_wal.specs.PageSize.{IsPageSize}
-use Rattle.sqlite_wal.proofs.CreateLemmas.{pages_of_one}
-use Rattle.sqlite_pool.specs.Header.{first_page, IsHeader}
-use Rattle.sqlite_pool.specs.Opening.{IsFirstPage, IsNew}
-use Rattle.sqlite_pool.specs.File.{version_in, in_use}
-use Rattle.sqlite_pool.specs.Stored.{Recovers, sealed, trimmed}
-use Rattle.sqlite_pool.proofs.OpenLemmas.{first_new}
-use Rattle.sqlite_pool.proofs.ResealLemmas.{adopts_of}
-use Rattle.sqlite_store.specs.Db.{trees_in}
-use Rattle.sqlite_store.specs.Listing.{all_trees, file_trees, IsOurs}
-use Rattle.sqlite_store.specs.Listed.{catalog_rows}
-use Rattle.sqlite_store.proofs.ListingLemmas.{past_version, named_tree}
-use Rattle.sqlite_store.proofs.BuildLemmas.{new_is_empty}
-use Rattle.sqlite.proofs.ListingLemmas.{empty_is_sound}
-use Rattle.procure_programs.specs.Blank.{empty_database}
-use Rattle.procure_programs.specs.Placed.{HoldNoTable}
 
 abbrev header_of_it : List ℕ
 header_of_it = take 100 empty_database

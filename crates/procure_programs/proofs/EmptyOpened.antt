@@ -1,23 +1,7 @@
 -- An office that is opened in two files that hold nothing has no content. If the log was used, they held an office.
-use Rattle.std.proofs.Common.{◌≡◌, inl, inr, [], refl, ap, ◌∙◌}
-use Rattle.sqlite_disk.specs.declared.Disk.{Ghosts}
-use Rattle.sqlite_wal.specs.Recovery.{Image}
-use Rattle.sqlite_store.specs.declared.store.FileStore.{FileStore}
-use Rattle.sqlite_trees.specs.Objects.{catalog_tree}
-use Rattle.sqlite_trees.specs.Tree.{Trees}
-use Rattle.sqlite_catalog.specs.Listing.{Lists}
-use Rattle.sqlite_catalog.proofs.ReadLemmas.{lists_once}
-use Rattle.sqlite.specs.Effect.{Database}
+use Rattle.procure_programs.proofs.Names.{◌≡◌, inl, inr, [], refl, ap, ◌∙◌, Ghosts, Image, FileStore, catalog_tree, Trees, Lists, lists_once, Database, HasCleanDisk, file_state, over_files, empty_is_sound, this_version, EntersFound, Found, OpensBlank, OpensUsed, Origin, enters_bare, no_schema, HadOfficeIfUsed, OpensEmpty}
 use Rattle.sqlite.specs.Held.{Held}
-use Rattle.sqlite.specs.State.{HasCleanDisk}
-use Rattle.sqlite.specs.Files.{file_state, over_files}
-use Rattle.sqlite.proofs.ListingLemmas.{empty_is_sound}
-use Rattle.office_tables.specs.Tables.Office.{this_version}
-use Rattle.office_store.specs.Reopening.{EntersFound, Found, OpensBlank, OpensUsed}
-use Rattle.office_store.specs.declared.opened.Origin.{Origin}
 use Rattle.office_store.specs.declared.opened.Origin.TheVariants as from
-use Rattle.office_store.proofs.Founding.{enters_bare, no_schema}
-use Rattle.procure_programs.specs.Placed.{HadOfficeIfUsed, OpensEmpty}
 
 module _ {D : Type 0} {g : Ghosts D} where
   bare_schema : (image : Image) (before : Held (FileStore D g)) → Found image before → (file_state before).committed.trees catalog_tree ≡ [] → before.schema ≡ no_schema

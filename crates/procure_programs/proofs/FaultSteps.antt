@@ -1,16 +1,7 @@
 -- The program's fault for each fault.
-use Rattle.std.proofs.Common.{◌≡◌, ◌⊎◌, inl, inr, ℕ, List, Err, refl, subst, sym, ap, ◌∙◌}
-use Rattle.office_base.specs.declared.shelf.ShelfFault.{ShelfFault}
+use Rattle.procure_programs.proofs.Names.{◌≡◌, ◌⊎◌, inl, inr, ℕ, List, Err, refl, subst, sym, ap, ◌∙◌, ShelfFault, OpenFault, settings_in, no_memory, of_settings, ProgramFault, SettingsFault, NoMemory, NotToml, Member, IsOfStore, of_opening, of_shelf, IsOfSettings, IsOfText}
 use Rattle.office_base.specs.declared.shelf.ShelfFault.TheVariants as shelf
-use Rattle.office_store.specs.declared.found.OpenFault.{OpenFault}
 use Rattle.office_store.specs.declared.found.OpenFault.TheVariants as opening
-use Rattle.procure_config.specs.Configuration.{settings_in}
-use Rattle.procure_config.specs.Faults.{no_memory, of_settings}
-use Rattle.procure_config.specs.declared.fault.ProgramFault.{ProgramFault}
-use Rattle.procure_config.specs.declared.settings.SettingsFault.{SettingsFault}
-use Rattle.procure_config.specs.declared.settings.SettingsFault.TheVariants.{NoMemory, NotToml, Member}
-use Rattle.procure_programs.specs.FaultsTold.{IsOfStore, of_opening, of_shelf}
-use Rattle.procure_programs.specs.Showing.{IsOfSettings, IsOfText}
 
 pub memory_is : (told : ProgramFault) → told ≡ no_memory → IsOfStore told
 memory_is told is = subst (λ (t : ProgramFault). IsOfStore t) (sym is) refl

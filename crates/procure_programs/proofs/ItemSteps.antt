@@ -1,24 +1,6 @@
 -- The items of a lot, as they are read from a JSON text.
-use Rattle.std.proofs.Common.{◌≡◌, ℕ, ◌+◌, ◌≤◌, ◌<◌, ◌⊎◌, inl, inr, List, [], ◌∷◌, ◌++◌, length, drop, Bool, true, false, Option, Some, None, Result, Ok, Err, IfSome, IfNone, IfOk, refl, sym, ap, ◌∙◌, append_assoc, add-one, get_or, suc, arith}
-use Rattle.std.specs.Prelude.{IsUtf8, nat_le, is_some, if◌then◌else◌}
-use Rattle.std.specs.Str.{is_utf8}
-use Rattle.std.proofs.Math.Seq.{drop-cons}
-use Rattle.std.proofs.lemmas.Bool.{le-leb, leb-true, and_parts}
-use Rattle.std.proofs.lemmas.List.{drop_all, append-nil}
-use Rattle.std.proofs.lemmas.Str.{IsUtf8-from_is_utf8, is_utf8-from_IsUtf8}
-use Rattle.serde_json.specs.Data.{Data, item}
-use Rattle.serde_json.specs.Read.{read}
-use Rattle.serde_json.specs.View.{items_view, view}
-use Rattle.serde_json.specs.declared.value.Value.{Value}
-use Rattle.office_values.specs.Fields.{is_id, is_text_line}
-use Rattle.office_values.specs.declared.refusal.BadPart.TheVariants.{Body}
-use Rattle.office_values.specs.declared.refusal.Refusal.{Refusal}
-use Rattle.office_values.specs.declared.refusal.Refusal.TheVariants.{BadBody}
-use Rattle.office_commands.specs.declared.item.Item.{Item}
-use Rattle.office_requests.specs.Bodies.{object_if, object_in_body}
-use Rattle.office_requests.specs.Fields.{◌>>=◌}
-use Rattle.office_requests.specs.Forms.{passing, identifier_of, line_of, is_between, number_between}
-use Rattle.office_requests.specs.Publications.{each_of, new_item_of}
+use Rattle.procure_programs.proofs.Names.{◌≡◌, ℕ, ◌+◌, ◌≤◌, ◌<◌, ◌⊎◌, inl, inr, List, [], ◌∷◌, ◌++◌, length, drop, Bool, true, false, Option, Some, None, Result, Ok, Err, IfSome, IfNone, IfOk, refl, sym, ap, ◌∙◌, append_assoc, add-one, get_or, suc, arith, IsUtf8, nat_le, is_some, if◌then◌else◌, is_utf8, drop-cons, le-leb, leb-true, and_parts, drop_all, append-nil, IsUtf8-from_is_utf8, is_utf8-from_IsUtf8, Data, item, read, items_view, Value, is_id, is_text_line, Body, Refusal, BadBody, Item, object_if, object_in_body, ◌>>=◌, passing, identifier_of, line_of, is_between, number_between, each_of, new_item_of}
+use Rattle.serde_json.specs.View.{view}
 
 -- ---- a text as an object
 

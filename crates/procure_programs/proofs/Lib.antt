@@ -1,3 +1,4 @@
+pub mod Names
 pub mod ServingSteps
 mod EmptyFile
 mod EmptyOpened

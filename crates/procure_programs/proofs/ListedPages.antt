@@ -1,18 +1,5 @@
 -- A program that writes page by page until none follows has written all notices.
-use Rattle.std.proofs.Common.{◌≡◌, ℕ, zero, suc, zero-add, ◌+◌, List, [], ◌∷◌, ◌++◌, length, take, Option, Some, None}
-use Rattle.std.proofs.Common.{refl, sym, ap, subst, arith, ◌∙◌, append_assoc}
-use Rattle.std.proofs.KnownBytes.{Appends-nil, Appends-trans}
-use Rattle.std.proofs.lemmas.List.{append-nil}
-use Rattle.std.proofs.lemmas.List.Concat.{flat_map-append}
-use Rattle.std.specs.Io.KnownBytes.{Appends}
-use Rattle.office_values.specs.Ids.{id_cmp}
-use Rattle.office_base.specs.Limits.{page_limit}
-use Rattle.office_base.specs.Pages.{TablesArePaged, followed, next_after, read_pages, rows_after}
-use Rattle.office_base.specs.Shelves.{Keeps, Meaning}
-use Rattle.office_base.specs.Tables.{IsSorted, Tables, notice_key}
-use Rattle.office_base.specs.declared.records.NoticeRow.{NoticeRow}
-use Rattle.tender_papers.specs.Listing.{listing_line, listing_text}
-use Rattle.procure_programs.specs.Listing.{WritesPage, page_rows}
+use Rattle.procure_programs.proofs.Names.{◌≡◌, ℕ, zero, suc, zero-add, ◌+◌, List, [], ◌∷◌, ◌++◌, length, take, Option, Some, None, refl, sym, ap, subst, arith, ◌∙◌, append_assoc, Appends-nil, Appends-trans, append-nil, flat_map-append, Appends, id_cmp, page_limit, TablesArePaged, followed, next_after, read_pages, rows_after, Keeps, Meaning, IsSorted, Tables, notice_key, NoticeRow, listing_line, listing_text, WritesPage, page_rows}
 
 -- This many pages after a notice.
 abbrev pub read : ℕ → Option (List ℕ) → Tables → List NoticeRow

@@ -1,40 +1,8 @@
 -- An office that was opened in files continues from their content, in every state in which these are found after they are closed.
-use Rattle.std.proofs.Common.{◌≡◌, inl, inr, Option, Some, None, Result, Ok, Err, IfOk, ℕ, ◌+◌, ◌≤◌, List, [], ◌∷◌, ◌++◌, length, refl, sym, ap, subst, ◌∙◌, arith, length-append}
-use Rattle.std.specs.Prelude.{IfSome}
-use Rattle.std.proofs.Math.Logic.{∥∥₁_elim, ∥∥₁_map}
-use Rattle.std.specs.declared.net.socket_addr.SocketAddrV4.{SocketAddrV4}
-use Rattle.sqlite_disk.specs.declared.Disk.{Ghosts}
-use Rattle.sqlite_disk.specs.declared.Files.{Files}
-use Rattle.sqlite_wal.specs.Recovery.{Image}
-use Rattle.sqlite_wal.specs.Reads.{AreClean}
-use Rattle.sqlite_store.specs.declared.store.FileStore.{FileStore}
+use Rattle.procure_programs.proofs.Names.{◌≡◌, inl, inr, Option, Some, None, Result, Ok, Err, IfOk, ℕ, ◌+◌, ◌≤◌, List, [], ◌∷◌, ◌++◌, length, refl, sym, ap, subst, ◌∙◌, arith, length-append, IfSome, ∥∥₁_elim, ∥∥₁_map, SocketAddrV4, Ghosts, Files, Image, AreClean, FileStore, file_state, over_files, HoldsAlone, IsCopied, HasCleanDisk, Publisher, Keeps, Looks, Meaning, Tables, IsSorted, Standing, ShowsTables, IsReached, DeskOf, FilesHoldOffice, IsHalfClosed, OpensHeld, LeavesNoOther, LeavesShown, sql_meaning, remembering, remembering_standing, Step, office_left, StandsAs, office_answers, StepsAreKept, StopsBy, ProgramFault, IsOfStore, Hosting, HadOfficeIfUsed, OpensEmpty, AreOfOpened, DayIn, DaysFollow, EndsPrinting, EndsServing, FilesGoOn, HalfClosesFiles, HalfPrintsFiles, HalfServesFilesAt, HaveOffice, KeysFollow, LedOn, MayBeFound, PrintsFiles, ServesFiles, ServesFilesAt, ServesOpened, StandsIn, StopsIn, TellsFirst, WasServed, WasServedRemembering, sql_standing, under_settings, IsPrintout, AreOfServingAt, ServesAt, Printout}
 use Rattle.sqlite.specs.Held.{Held as Connected}
-use Rattle.sqlite.specs.Files.{file_state, over_files}
-use Rattle.sqlite.specs.Closing.{HoldsAlone, IsCopied}
-use Rattle.sqlite.specs.State.{HasCleanDisk}
-use Rattle.office_values.specs.declared.settings.Publisher.{Publisher}
 use Rattle.office_values.specs.declared.settings.Settings.{Settings}
-use Rattle.office_base.specs.Shelves.{Keeps, Looks, Meaning}
-use Rattle.office_base.specs.Tables.{Tables, IsSorted}
-use Rattle.office_base.specs.Shutting.{Standing}
-use Rattle.office_tables.specs.Steps.{ShowsTables}
-use Rattle.office_publications.specs.Standing.{IsReached}
-use Rattle.office_desk.specs.Desks.{DeskOf}
-use Rattle.office_store.specs.Reopening.{FilesHoldOffice, IsHalfClosed, OpensHeld}
-use Rattle.office_store.specs.SqlMeaning.{LeavesNoOther, LeavesShown, sql_meaning}
-use Rattle.office_sums.specs.RememberingMeaning.{remembering, remembering_standing}
-use Rattle.office_wire.specs.Runs.{Step, office_left}
-use Rattle.office_http.specs.Answering.{Held, StandsAs, office_answers}
-use Rattle.office_http.specs.Joined.{StepsAreKept}
-use Rattle.office_http.specs.Stops.{StopsBy}
-use Rattle.procure_config.specs.declared.fault.ProgramFault.{ProgramFault}
-use Rattle.procure_programs.specs.FaultsTold.{IsOfStore}
-use Rattle.procure_programs.specs.Hosts.{Hosting}
-use Rattle.procure_programs.specs.Placed.{HadOfficeIfUsed, OpensEmpty}
-use Rattle.procure_programs.specs.Serving.{AreOfOpened, DayIn, DaysFollow, EndsPrinting, EndsServing, FilesGoOn, HalfClosesFiles, HalfPrintsFiles, HalfServesFilesAt, HaveOffice, KeysFollow, LedOn, MayBeFound, PrintsFiles, ServesFiles, ServesFilesAt, ServesOpened, StandsIn, StopsIn, TellsFirst, WasServed, WasServedRemembering, sql_standing, under_settings}
-use Rattle.procure_programs.specs.Showing.{IsPrintout}
-use Rattle.procure_programs.specs.Turns.{AreOfServingAt, ServesAt}
-use Rattle.procure_programs.specs.declared.showing.Printout.{Printout}
+use Rattle.office_http.specs.Answering.{Held}
 use Rattle.procure_programs.proofs.ServingSteps.{office_on, served_none, served_still, serving_kept, stops_none}
 
 -- ---- the steps of the connections

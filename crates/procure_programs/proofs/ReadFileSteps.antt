@@ -1,13 +1,5 @@
 -- The text that is printed of a file.
-use Rattle.std.proofs.Common.{◌≡◌, ◌⊎◌, inl, inr, List, ℕ, true, Result, Ok, Err, refl, sym, ap, subst}
-use Rattle.office_values.specs.declared.refusal.Refusal.{Refusal}
-use Rattle.office_values.specs.declared.refusal.Refusal.TheVariants.{Unavailable}
-use Rattle.office_commands.specs.declared.item.Item.{Item}
-use Rattle.office_wire.specs.Sending.{AppendsPart, WriterView}
-use Rattle.procure_config.specs.Faults.{no_memory}
-use Rattle.procure_config.specs.declared.fault.ProgramFault.{ProgramFault}
-use Rattle.procure_config.specs.declared.fault.ProgramFault.TheVariants.{Output, Refused}
-use Rattle.procure_programs.specs.ReadFiles.{PrintsShown, PrintsTender, Shown, tender_shown}
+use Rattle.procure_programs.proofs.Names.{◌≡◌, ◌⊎◌, inl, inr, List, ℕ, true, Result, Ok, Err, refl, sym, ap, subst, Refusal, Unavailable, Item, AppendsPart, WriterView, no_memory, ProgramFault, Output, Refused, PrintsShown, PrintsTender, Shown, tender_shown}
 
 -- The output failed.
 pub cut_off : (shown : Shown) (old new : WriterView) (why : ProgramFault) → why ≡ Output → AppendsPart old.contents new.contents shown.0 → new.has_failed ≡ true

@@ -1,13 +1,6 @@
 -- An office that was served while the sums of its budget lines were remembered was served.
-use Rattle.std.specs.Prelude.{◌≡◌, ℕ}
-use Rattle.std.proofs.Common.{sym, subst}
+use Rattle.procure_programs.proofs.Names.{◌≡◌, ℕ, sym, subst, Meaning, Tables, LeftBySteps, remembering, RememberingShelf, WasServed}
 use Rattle.office_values.specs.declared.settings.Settings.{Settings}
-use Rattle.office_base.specs.Shelves.{Meaning}
-use Rattle.office_base.specs.Tables.{Tables}
-use Rattle.office_http.specs.Stops.{LeftBySteps}
-use Rattle.office_sums.specs.RememberingMeaning.{remembering}
-use Rattle.office_sums.specs.declared.shelf.RememberingShelf.{RememberingShelf}
-use Rattle.procure_programs.specs.Serving.{WasServed}
 
 pub served_inside : {S : Type 0} (M : Meaning S) (most : ℕ) (settings : Settings) (old : S) (first last : RememberingShelf S) → first.shelf ≡ old
     → ((t : Tables) → M.holds old t → (remembering M).holds first t) → WasServed (remembering M) most settings first last → WasServed M most settings old last.shelf

@@ -1,19 +1,7 @@
 -- One more connection.
-use Rattle.std.proofs.Common.{◌≡◌, inl, inr, ℕ, ◌+◌, ◌≤◌, Bool, true, false, List, [], ◌∷◌, ◌++◌, length, Option, Result, refl, sym, subst, ◌∙◌, arith, length-append}
-use Rattle.std.specs.declared.net.socket_addr.SocketAddrV4.{SocketAddrV4}
+use Rattle.procure_programs.proofs.Names.{◌≡◌, inl, inr, ℕ, ◌+◌, ◌≤◌, Bool, true, false, List, [], ◌∷◌, ◌++◌, length, Option, Result, refl, sym, subst, ◌∙◌, arith, length-append, SocketAddrV4, Keeps, Meaning, Standing, Tables, DeskOf, Answers, IsOneAtMost, Step, office_left, IsWholeAfter, LeftAfter, StandsAs, is_accepted, meant_in, office_answers, StepsAreKept, LeftBySteps, StopsBy, ProgramFault, Hosting, TakesTurns, WasServed, WasServedAt, ServesAt}
 use Rattle.office_values.specs.declared.settings.Settings.{Settings}
-use Rattle.office_base.specs.Shelves.{Keeps, Meaning}
-use Rattle.office_base.specs.Shutting.{Standing}
-use Rattle.office_base.specs.Tables.{Tables}
-use Rattle.office_desk.specs.Desks.{DeskOf}
-use Rattle.office_wire.specs.Runs.{Answers, IsOneAtMost, Step, office_left}
-use Rattle.office_http.specs.Answering.{Held, IsWholeAfter, LeftAfter, StandsAs, is_accepted, meant_in, office_answers}
-use Rattle.office_http.specs.Joined.{StepsAreKept}
-use Rattle.office_http.specs.Stops.{LeftBySteps, StopsBy}
-use Rattle.procure_config.specs.declared.fault.ProgramFault.{ProgramFault}
-use Rattle.procure_programs.specs.Hosts.{Hosting}
-use Rattle.procure_programs.specs.Serving.{TakesTurns, WasServed, WasServedAt}
-use Rattle.procure_programs.specs.Turns.{ServesAt}
+use Rattle.office_http.specs.Answering.{Held}
 
 -- The office after two lists of steps.
 pub office_on : {S : Type 0} (A : Answers S) (xs ys : List Step) (s : S) → office_left A s (xs ++ ys) ≡ office_left A (office_left A s xs) ys

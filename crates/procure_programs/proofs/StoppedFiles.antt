@@ -1,31 +1,9 @@
 -- An office that was served from files continues from every state of them that a stop leaves.
-use Rattle.std.proofs.Common.{◌≡◌, ◌⊎◌, inl, inr, Bool, true, false, ℕ, ◌≤◌, List, [], ◌∷◌, length, refl, sym, subst, arith, Option, Result, Ok, Err, IfErr}
-use Rattle.std.proofs.Math.Logic.{∥∥₁_map}
-use Rattle.std.specs.declared.net.socket_addr.SocketAddrV4.{SocketAddrV4}
-use Rattle.sqlite_disk.specs.declared.Disk.{Ghosts}
-use Rattle.sqlite_wal.specs.Recovery.{Image}
-use Rattle.sqlite_store.specs.declared.store.FileStore.{FileStore}
-use Rattle.sqlite_store.specs.FileStore.{recovers, state, view}
-use Rattle.sqlite_trees.specs.Tree.{Trees}
-use Rattle.sqlite_trees.specs.View.{IsClean}
+use Rattle.procure_programs.proofs.Names.{◌≡◌, ◌⊎◌, inl, inr, Bool, true, false, ℕ, ◌≤◌, List, [], ◌∷◌, length, refl, sym, subst, arith, Option, Result, Ok, Err, IfErr, ∥∥₁_map, SocketAddrV4, Ghosts, Image, FileStore, recovers, state, Trees, IsClean, file_state, over_files, HasCleanDisk, Tables, IsSorted, TablesAreInOrder, publishing, IsReached, MayLeave, ShowsTables, FilesHoldOffice, IsHalfClosed, IsPutDown, OpensHeld, StandForOffice, LeavesNoOther, LeavesShown, sql_meaning, Step, office_left, IsWholeAfter, LeftAfter, is_accepted, meant_in, office_answers, LeftBySteps, StopsBy, ProgramFault, Hosting, OpensEmpty, AreBeginning, HalfClosesFiles, HalfServesFilesAt, ServesOpened, StandsAt, StandsIn, StopsFiles, StopsFilesAt, TellsFirst, WasServed}
+use Rattle.sqlite_store.specs.FileStore.{view}
 use Rattle.sqlite.specs.Held.{Held as Connected}
-use Rattle.sqlite.specs.Files.{file_state, over_files}
-use Rattle.sqlite.specs.State.{HasCleanDisk}
 use Rattle.office_values.specs.declared.settings.Settings.{Settings}
-use Rattle.office_base.specs.Tables.{Tables, IsSorted}
-use Rattle.office_machine.specs.Accounts.{TablesAreInOrder}
-use Rattle.office_publications.specs.Publishing.{publishing}
-use Rattle.office_publications.specs.Standing.{IsReached}
-use Rattle.office_tables.specs.Steps.{MayLeave, ShowsTables}
-use Rattle.office_store.specs.Reopening.{FilesHoldOffice, IsHalfClosed, IsPutDown, OpensHeld, StandForOffice}
-use Rattle.office_store.specs.SqlMeaning.{LeavesNoOther, LeavesShown, sql_meaning}
-use Rattle.office_wire.specs.Runs.{Step, office_left}
-use Rattle.office_http.specs.Answering.{Held, IsWholeAfter, LeftAfter, is_accepted, meant_in, office_answers}
-use Rattle.office_http.specs.Stops.{LeftBySteps, StopsBy}
-use Rattle.procure_config.specs.declared.fault.ProgramFault.{ProgramFault}
-use Rattle.procure_programs.specs.Hosts.{Hosting}
-use Rattle.procure_programs.specs.Placed.{OpensEmpty}
-use Rattle.procure_programs.specs.Serving.{AreBeginning, HalfClosesFiles, HalfServesFilesAt, ServesOpened, StandsAt, StandsIn, StopsFiles, StopsFilesAt, TellsFirst, WasServed}
+use Rattle.office_http.specs.Answering.{Held}
 use Rattle.procure_programs.proofs.OpenedFiles.{settings_stay, shows_files, steps_of}
 use Rattle.procure_programs.proofs.ServingSteps.{left_by}
 

@@ -1,20 +1,7 @@
 -- One connection after another.
-use Rattle.std.proofs.Common.{◌≡◌, ◌⊎◌, inl, inr, ℕ, zero, suc, ◌+◌, ◌≤◌, Bool, true, false, List, [], ◌++◌, length, Option, Some, Result, Ok, Err, refl, sym, subst, ◌∙◌, arith, append-nil, length-append}
-use Rattle.std.specs.Prelude.{⊤, IfErr}
-use Rattle.office_base.specs.Shelves.{Keeps, Meaning}
-use Rattle.office_base.specs.declared.shelf.ShelfFault.{ShelfFault}
-use Rattle.office_base.specs.Shutting.{Standing, TellsShut}
-use Rattle.office_desk.specs.Desks.{DeskOf}
-use Rattle.office_wire.specs.Runs.{Step, office_left}
-use Rattle.office_wire.specs.declared.fault.RunFault.{RunFault}
-use Rattle.office_http.specs.Answering.{Held, StandsAs, office_answers}
-use Rattle.office_http.specs.Joined.{StepsAreKept}
-use Rattle.office_http.specs.Stops.{StopsBy}
-use Rattle.procure_config.specs.declared.fault.ProgramFault.{ProgramFault}
-use Rattle.procure_config.specs.declared.fault.ProgramFault.TheVariants.{Arguments, Settings, Store, Input, Output, Refused}
-use Rattle.procure_programs.specs.Hosts.{Hosting, TellsMoment, clock_moment}
-use Rattle.procure_programs.specs.Serving.{TakesTurns}
-use Rattle.procure_programs.specs.Turns.{AnswersConnection, AreOfConnection, AreOfServing, AreOfTurn, AreOfTurns, EndsBy, GoesOnFor, IsOneTurn, ServesAndAsks, ServesConnection, ServesInTurn, ServesSteps, TakesOne}
+use Rattle.procure_programs.proofs.Names.{◌≡◌, ◌⊎◌, inl, inr, ℕ, zero, suc, ◌+◌, ◌≤◌, Bool, true, false, List, [], ◌++◌, length, Option, Some, Result, Ok, Err, refl, sym, subst, ◌∙◌, arith, append-nil, length-append, ⊤, IfErr, Keeps, Meaning, ShelfFault, Standing, TellsShut, DeskOf, Step, office_left, RunFault, StandsAs, office_answers, StepsAreKept, StopsBy, ProgramFault, Arguments, Store, Input, Output, Refused, Hosting, TellsMoment, clock_moment, TakesTurns, AnswersConnection, AreOfConnection, AreOfServing, AreOfTurn, AreOfTurns, EndsBy, GoesOnFor, IsOneTurn, ServesAndAsks, ServesConnection, ServesInTurn, ServesSteps, TakesOne}
+use Rattle.office_http.specs.Answering.{Held}
+use Rattle.procure_config.specs.declared.fault.ProgramFault.TheVariants.{Settings}
 use Rattle.procure_programs.proofs.ServingSteps.{at_most_one, office_on, stops_none, stops_on, stops_still}
 
 -- ---- one connection that was taken

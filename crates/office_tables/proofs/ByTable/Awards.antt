@@ -1,10 +1,9 @@
 -- Awards: what is shown of their table, of the text that puts one, and of each question.
 use Rattle.office_tables.proofs.TableTools.{◌≡◌, inl, inr, ◌∷◌, [], List, ℕ, pos, Some, codes, refl, ap, ◌∙◌, map, slice_get, drop, option_map, range_with_len, is_lt, nat_cmp_total, numbers_exact, Null, Int, Text, first_key, Row, same_name, Schema, Select, alone, chosen, first_found, max_budget, first, everything, listing_schema, State, Shown, same_id, Tables, same_number, text_column, number_column, IsIn, at_tree, IsIndexing, Holds, cast_null, cast_int, numbers_equal, equal_numbers, one_true, only_true, text_tested, number_tested, numbers_cmp, and_true, then_equal, same_number_is, numbered, StatementMeans, parsed_in, equals_e, names_of, outputs_of, Has, one_test, select, columns_of, left, IsSelect, selects_mean, found_by_tree, gets, lists, Shape, at_rowid, columns_in, rows_in, clause_in, IsStored, ReadsTable, ReadsIndex, creates_it, indexes_it, IsOfficeTable, IsPutText, IsPutOf, StaysBeside}
 use Rattle.office_base.specs.declared.puts.Put.TheVariants as put
-use Rattle.office_base.specs.declared.records.AwardRow.{AwardRow}
-use Rattle.office_base.specs.Tables.{awards_of_notice, award_at}
-use Rattle.office_tables.specs.Tables.Awards.{awards_of_notice as awards_of_notice_index, create_awards, awards, create_awards_of_notice, upsert_awards, award_values, award_read, award_form}
-use Rattle.office_tables.specs.Schema.OfficeTable.{Awards}
+use Rattle.office_tables.proofs.Names.{AwardRow, award_at, create_awards, awards, create_awards_of_notice, upsert_awards, award_values, award_read, award_form, Awards}
+use Rattle.office_base.specs.Tables.{awards_of_notice}
+use Rattle.office_tables.specs.Tables.Awards.{awards_of_notice as awards_of_notice_index}
 
 -- ---- the table
 

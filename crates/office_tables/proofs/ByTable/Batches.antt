@@ -1,10 +1,7 @@
 -- Budget files: what is shown of their table, of the text that puts one, and of each question.
 use Rattle.office_tables.proofs.TableTools.{◌≡◌, inl, ◌∷◌, [], List, ℕ, pos, Some, codes, refl, ap, ◌∙◌, slice_get, drop, option_map, range_with_len, nat_list_cmp_total, Text, first_key, Row, same_name, Schema, Select, alone, chosen, first_found, max_budget, first, everything, State, Shown, same_id, Tables, ids_exact, same_id_is, text_column, IsIn, at_tree, Holds, cast_null, cast_int, texts_equal, equal_texts, one_true, only_true, text_tested, and_true, indexed, StatementMeans, parsed_in, equals_e, names_of, outputs_of, Has, one_test, select, columns_of, left, IsSelect, selects_mean, found_by_tree, gets, Shape, behind_rowid, columns_in, rows_in, clause_in, IsStored, ReadsTable, creates_it, IsOfficeTable, IsPutText, IsPutOf, StaysBeside}
 use Rattle.office_base.specs.declared.puts.Put.TheVariants as put
-use Rattle.office_base.specs.declared.records.BatchRow.{BatchRow}
-use Rattle.office_base.specs.Tables.{batch_at}
-use Rattle.office_tables.specs.Tables.Batches.{create_batches, batches, upsert_batches, batch_values, batch_read, batch_form}
-use Rattle.office_tables.specs.Schema.OfficeTable.{Batches}
+use Rattle.office_tables.proofs.Names.{BatchRow, batch_at, create_batches, batches, upsert_batches, batch_values, batch_read, batch_form, Batches}
 
 -- ---- the table
 

@@ -1,9 +1,8 @@
 -- Merges of a notice's releases: what is shown of their table, of the text that puts one, and of each question.
 use Rattle.office_tables.proofs.TableTools.{◌≡◌, inl, ◌∷◌, [], List, ℕ, Some, codes, refl, ap, ◌∙◌, slice_get, drop, option_map, range_with_len, nat_list_cmp_total, Text, first_key, Row, same_name, Schema, Select, alone, chosen, first_found, max_budget, first, everything, State, Shown, same_id, Tables, ids_exact, same_id_is, text_column, IsIn, at_tree, Holds, cast_null, cast_int, texts_equal, equal_texts, one_true, only_true, text_tested, and_true, indexed, StatementMeans, parsed_in, equals_e, names_of, outputs_of, Has, one_test, select, columns_of, left, IsSelect, selects_mean, found_by_tree, gets, Shape, behind_rowid, columns_in, rows_in, clause_in, IsStored, ReadsTable, creates_it, IsOfficeTable, IsPutText, IsPutOf, StaysBeside}
 use Rattle.office_base.specs.declared.puts.Put.TheVariants as put
-use Rattle.office_base.specs.declared.records.CompiledRow.{CompiledRow}
-use Rattle.office_base.specs.Tables.{compiled_at}
-use Rattle.office_tables.specs.Tables.Compiled.{create_compiled, compiled, upsert_compiled, compiled_values, compiled_read, compiled_form}
+use Rattle.office_tables.proofs.Names.{CompiledRow, compiled_at, create_compiled, upsert_compiled, compiled_values, compiled_read, compiled_form}
+use Rattle.office_tables.specs.Tables.Compiled.{compiled}
 use Rattle.office_tables.specs.Schema.OfficeTable.{Compiled}
 
 -- ---- the table

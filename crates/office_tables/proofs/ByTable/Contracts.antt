@@ -1,11 +1,9 @@
 -- Contracts: what is shown of their table, of the text that puts one, and of each question.
 use Rattle.office_tables.proofs.TableTools.{◌≡◌, inl, inr, ◌∷◌, [], List, ℕ, pos, Some, codes, refl, ap, ◌∙◌, map, slice_get, drop, option_map, range_with_len, is_lt, nat_cmp_total, numbers_exact, Null, Int, Text, first_key, Row, same_name, Schema, Select, alone, chosen, first_found, max_budget, first, everything, listing_schema, State, Shown, same_id, Tables, same_number, text_column, number_column, IsIn, at_tree, IsIndexing, Holds, cast_null, cast_int, cast_perhaps, cast_words, numbers_equal, equal_numbers, one_true, only_true, text_tested, number_tested, numbers_cmp, and_true, then_equal, same_number_is, numbered, StatementMeans, parsed_in, equals_e, names_of, outputs_of, Has, one_test, select, columns_of, left, IsSelect, selects_mean, found_by_tree, gets, lists, Shape, at_rowid, columns_in, rows_in, clause_in, IsStored, ReadsTable, ReadsIndex, creates_it, indexes_it, IsOfficeTable, IsPutText, IsPutOf, StaysBeside}
 use Rattle.office_base.specs.declared.puts.Put.TheVariants as put
-use Rattle.office_base.specs.declared.records.ContractRow.{ContractRow}
-use Rattle.office_base.specs.Tables.{contracts_of_notice, contract_at}
-use Rattle.office_tables.specs.Tables.Contracts.{contracts_of_notice as contracts_of_notice_index, create_contracts, contracts, create_contracts_of_notice, upsert_contracts, contract_values, contract_read, contract_form}
-use Rattle.office_tables.specs.Words.{how_text}
-use Rattle.office_tables.specs.Schema.OfficeTable.{Contracts}
+use Rattle.office_tables.proofs.Names.{ContractRow, contract_at, create_contracts, contracts, create_contracts_of_notice, upsert_contracts, contract_values, contract_read, contract_form, how_text, Contracts}
+use Rattle.office_base.specs.Tables.{contracts_of_notice}
+use Rattle.office_tables.specs.Tables.Contracts.{contracts_of_notice as contracts_of_notice_index}
 
 -- ---- the table
 

@@ -1,10 +1,7 @@
 -- Entries of contracts: what is shown of their table, of the text that puts one, and of each question.
 use Rattle.office_tables.proofs.TableTools.{◌≡◌, inl, inr, ◌&&◌, ◌∷◌, [], List, ℕ, pos, Some, codes, refl, ap, ap₂, ◌∙◌, map, slice_get, drop, option_map, range_with_len, nat_cmp, Int, Text, first_key, Row, value_cmp-Text, same_name, Schema, Select, alone, chosen, first_found, max_budget, first, everything, State, Shown, id_cmp, same_id, Tables, same_number, entries_exact, same_id_is, entries_total, text_column, number_column, IsIn, at_tree, Holds, cast_null, cast_int, cast_words, texts_equal, equal_texts, numbers_equal, equal_numbers, both_true, first_true, text_tested, number_tested, numbers_cmp, and_true, pair_then, both_equal, same_number_is, indexed, StatementMeans, parsed_in, equals_e, both_e, names_of, outputs_of, Has, one_test, two_tests, select, columns_of, left, IsSelect, selects_mean, found_by_tree, gets, lists, Shape, behind_rowid, columns_in, rows_in, clause_in, IsStored, ReadsTable, creates_it, IsOfficeTable, IsPutText, IsPutOf, StaysBeside}
 use Rattle.office_base.specs.declared.puts.Put.TheVariants as put
-use Rattle.office_base.specs.declared.records.EntryRow.{EntryRow}
-use Rattle.office_base.specs.Tables.{entry_at, entries_of_contract}
-use Rattle.office_tables.specs.Tables.Entries.{create_entries, entries, upsert_entries, entry_values, entry_read, entry_form}
-use Rattle.office_tables.specs.Schema.OfficeTable.{Entries}
+use Rattle.office_tables.proofs.Names.{EntryRow, entry_at, entries_of_contract, create_entries, entries, upsert_entries, entry_values, entry_read, entry_form, Entries}
 
 -- ---- the table
 

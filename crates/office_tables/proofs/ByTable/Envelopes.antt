@@ -1,12 +1,9 @@
 -- Tenders: what is shown of their table, of the text that puts one, and of each question.
 use Rattle.office_tables.proofs.TableTools.{◌≡◌, inl, inr, ◌&&◌, ◌∷◌, [], List, ℕ, pos, Some, codes, refl, ap, ap₂, ◌∙◌, map, slice_get, drop, option_map, range_with_len, is_lt, nat_cmp_total, numbers_exact, Null, Int, Text, first_key, Row, same_name, Schema, Select, alone, chosen, first_found, max_budget, first, everything, listing_schema, State, Shown, same_id, Tables, same_number, text_column, number_column, IsIn, at_tree, IsIndexing, Holds, cast_null, cast_int, cast_perhaps, cast_words, numbers_equal, equal_numbers, one_true, only_true, text_tested, number_tested, three_tested, numbers_cmp, and_true, then_equal, same_number_is, numbered, StatementMeans, parsed_in, equals_e, both_e, names_of, outputs_of, Has, one_test, two_tests, three_tests, select, columns_of, left, IsSelect, selects_mean, found_by_tree, gets, lists, Shape, at_rowid, columns_in, rows_in, clause_in, IsStored, ReadsTable, ReadsIndex, creates_it, indexes_it, IsOfficeTable, IsPutText, IsPutOf, StaysBeside}
 use Rattle.office_base.specs.declared.puts.Put.TheVariants as put
-use Rattle.office_base.specs.declared.records.EnvelopeRow.{EnvelopeRow}
-use Rattle.office_base.specs.Tables.{envelopes_of_notice, envelope_at, envelopes_of_lot, of_tenderer, envelopes_of_tenderer}
-use Rattle.office_tables.specs.Tables.Envelopes.{envelopes_of_notice as envelopes_of_notice_index, create_envelopes, envelopes, create_envelopes_of_notice, upsert_envelopes, envelope_values, envelope_read, envelope_form}
-use Rattle.office_tables.specs.Readings.{reading_word, stated_price, corrected_price, count_of_corrections}
-use Rattle.office_tables.specs.Values.{as_number}
-use Rattle.office_tables.specs.Schema.OfficeTable.{Envelopes}
+use Rattle.office_tables.proofs.Names.{EnvelopeRow, envelope_at, envelopes_of_lot, of_tenderer, envelopes_of_tenderer, create_envelopes, envelopes, create_envelopes_of_notice, upsert_envelopes, envelope_values, envelope_read, envelope_form, reading_word, stated_price, corrected_price, count_of_corrections, as_number, Envelopes}
+use Rattle.office_base.specs.Tables.{envelopes_of_notice}
+use Rattle.office_tables.specs.Tables.Envelopes.{envelopes_of_notice as envelopes_of_notice_index}
 
 -- ---- the table
 

@@ -1,10 +1,7 @@
 -- Budget lines: what is shown of their table, of the text that puts one, and of each question.
 use Rattle.office_tables.proofs.TableTools.{◌≡◌, inl, ◌∷◌, [], List, ℕ, pos, None, Some, codes, refl, ap, ◌∙◌, true, map, slice_get, drop, option_map, range_with_len, is_lt, nat_list_cmp_total, Text, first_key, Row, value_cmp-Text, same_name, Schema, Select, alone, chosen, first_found, max_budget, first, everything, State, Shown, same_id, Tables, ids_exact, same_id_is, text_column, IsIn, at_tree, Holds, cast_null, cast_int, texts_equal, equal_texts, one_true, only_true, text_tested, and_true, then_equal, indexed, StatementMeans, parsed_in, equals_e, names_of, outputs_of, Has, no_test, one_test, select, columns_of, left, IsSelect, selects_mean, found_by_tree, gets, lists, filter-all, Shape, behind_rowid, columns_in, rows_in, clause_in, IsStored, ReadsTable, creates_it, IsOfficeTable, IsPutText, IsPutOf, StaysBeside}
 use Rattle.office_base.specs.declared.puts.Put.TheVariants as put
-use Rattle.office_base.specs.declared.records.LineRow.{LineRow}
-use Rattle.office_base.specs.Tables.{line_at}
-use Rattle.office_tables.specs.Tables.Lines.{create_lines, lines, upsert_lines, line_values, line_read, line_form}
-use Rattle.office_tables.specs.Schema.OfficeTable.{Lines}
+use Rattle.office_tables.proofs.Names.{LineRow, line_at, create_lines, lines, upsert_lines, line_values, line_read, line_form, Lines}
 
 -- ---- the table
 

@@ -1,10 +1,9 @@
 -- Lots: what is shown of their table, of the text that puts one, and of each question.
 use Rattle.office_tables.proofs.TableTools.{◌≡◌, inl, ◌&&◌, ◌∷◌, [], List, ℕ, pos, Some, codes, refl, ap, ap₂, ◌∙◌, map, slice_get, drop, option_map, range_with_len, Text, first_key, Row, value_cmp-Text, same_name, Schema, Select, alone, chosen, first_found, max_budget, first, everything, listing_schema, State, Shown, id_cmp, same_id, Tables, lots_exact, same_id_is, lots_total, text_column, IsIn, at_tree, IsIndexing, Holds, cast_null, cast_int, texts_equal, equal_texts, both_true, first_true, text_tested, and_true, pair_then, both_equal, indexed, StatementMeans, parsed_in, equals_e, both_e, names_of, outputs_of, Has, one_test, two_tests, select, columns_of, left, IsSelect, selects_mean, found_by_tree, gets, lists, Shape, behind_rowid, columns_in, rows_in, clause_in, IsStored, ReadsTable, ReadsIndex, creates_it, indexes_it, IsOfficeTable, IsPutText, IsPutOf, StaysBeside}
 use Rattle.office_base.specs.declared.puts.Put.TheVariants as put
-use Rattle.office_base.specs.declared.records.LotRow.{LotRow}
-use Rattle.office_base.specs.Tables.{lots_of_line, lot_at, lots_of_notice}
-use Rattle.office_tables.specs.Tables.Lots.{lots_of_line as lots_of_line_index, create_lots, lots, create_lots_of_line, upsert_lots, lot_values, lot_read, lot_form}
-use Rattle.office_tables.specs.Schema.OfficeTable.{Lots}
+use Rattle.office_tables.proofs.Names.{LotRow, lot_at, lots_of_notice, create_lots, lots, create_lots_of_line, upsert_lots, lot_values, lot_read, lot_form, Lots}
+use Rattle.office_base.specs.Tables.{lots_of_line}
+use Rattle.office_tables.specs.Tables.Lots.{lots_of_line as lots_of_line_index}
 
 -- ---- the table
 

@@ -1,11 +1,7 @@
 -- Notices: what is shown of their table, of the text that puts one, and of each question.
 use Rattle.office_tables.proofs.TableTools.{◌≡◌, inl, ◌∷◌, [], List, ℕ, pos, None, Some, codes, refl, ap, ◌∙◌, true, map, slice_get, drop, option_map, range_with_len, is_lt, nat_list_cmp_total, Int, Text, Binary, first_key, Row, value_cmp-Text, col, op2, Compare, Gt, same_name, Schema, Select, alone, chosen, first_found, max_budget, first, everything, State, Shown, id_cmp, same_id, Tables, ids_exact, same_id_is, text_column, IsIn, at_tree, RowsStand, Holds, cast_null, cast_int, cast_perhaps, texts_equal, equal_texts, one_true, only_true, text_tested, and_true, then_equal, text_above, indexed, StatementMeans, parsed_in, parameter_counts, equals_e, above_e, count_e, names_of, outputs_of, Has, no_test, one_test, above_test, out_parameter, select, capped_select, columns_of, left, IsSelect, IsCapped, selects_mean, capped_selects_mean, found_by_tree, gets, lists, pages, filter-all, Shape, behind_rowid, columns_in, rows_in, clause_in, IsStored, ReadsTable, creates_it, IsOfficeTable, IsPutText, IsPutOf, StaysBeside}
 use Rattle.office_base.specs.declared.puts.Put.TheVariants as put
-use Rattle.office_base.specs.declared.records.NoticeRow.{NoticeRow}
-use Rattle.office_base.specs.Tables.{notice_at}
-use Rattle.office_base.specs.Pages.{is_after, notices_after}
-use Rattle.office_tables.specs.Tables.Notices.{create_notices, notices, upsert_notices, notice_values, notice_read, notice_form, create_former_notices, former_notices, former_read, former_form}
-use Rattle.office_tables.specs.Schema.OfficeTable.{Notices, FormerNotices}
+use Rattle.office_tables.proofs.Names.{NoticeRow, notice_at, is_after, notices_after, create_notices, notices, upsert_notices, notice_values, notice_read, notice_form, create_former_notices, former_notices, former_read, former_form, Notices, FormerNotices}
 
 -- ---- the table
 

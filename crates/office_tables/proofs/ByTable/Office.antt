@@ -1,10 +1,7 @@
 -- The clock: what is shown of its table, of the text that puts it, and of its question.
 use Rattle.office_tables.proofs.TableTools.{◌≡◌, ◌∷◌, [], List, ℕ, pos, None, codes, refl, true, map, range_with_len, IsTotalOrder, IsAntisymmetric, Int, first_key, Row, same_name, Schema, Select, alone, chosen, first_found, max_budget, first, everything, State, Shown, row_put, Tables, number_column, IsIn, at_tree, Holds, cast_null, cast_int, numbers_equal, one_true, numbered, StatementMeans, IsOne, parsed_in, names_of, outputs_of, Has, no_test, select, columns_of, left, IsSelect, selects_mean, found_by_tree, lists, shows_rows, Shape, at_rowid, columns_in, rows_in, clause_in, IsStored, ReadsTable, creates_it, IsOfficeTable, IsPutText, IsPutOf, StaysBeside}
 use Rattle.office_base.specs.declared.puts.Put.TheVariants as put
-use Rattle.office_base.specs.declared.records.ClockRow.{ClockRow}
-use Rattle.office_tables.specs.Tables.Office.{this_version, create_office, office, upsert_office, clock_cmp, clock_read, clock_form_of, clock_form}
-use Rattle.office_tables.specs.Version.{get_version, HasVersion}
-use Rattle.office_tables.specs.Schema.OfficeTable.{Office}
+use Rattle.office_tables.proofs.Names.{ClockRow, this_version, create_office, office, upsert_office, clock_cmp, clock_read, clock_form_of, clock_form, get_version, HasVersion, Office}
 
 -- ---- the table
 

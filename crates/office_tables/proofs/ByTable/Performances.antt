@@ -1,10 +1,7 @@
 -- Performance securities: what is shown of their table, of the text that puts one, and of each question.
 use Rattle.office_tables.proofs.TableTools.{◌≡◌, inr, ◌∷◌, [], List, ℕ, pos, Some, codes, refl, ap, ◌∙◌, slice_get, drop, option_map, range_with_len, nat_cmp_total, numbers_exact, Null, Int, first_key, Row, same_name, Schema, Select, alone, chosen, first_found, max_budget, first, everything, State, Shown, Tables, same_number, number_column, IsIn, at_tree, Holds, cast_null, cast_int, numbers_equal, equal_numbers, one_true, only_true, number_tested, and_true, same_number_is, numbered, StatementMeans, parsed_in, equals_e, names_of, outputs_of, Has, one_test, select, columns_of, left, IsSelect, selects_mean, found_by_tree, gets, Shape, at_rowid, columns_in, rows_in, clause_in, IsStored, ReadsTable, creates_it, IsOfficeTable, IsPutText, IsPutOf, StaysBeside}
 use Rattle.office_base.specs.declared.puts.Put.TheVariants as put
-use Rattle.office_base.specs.declared.records.PerformanceRow.{PerformanceRow}
-use Rattle.office_base.specs.Tables.{performance_at}
-use Rattle.office_tables.specs.Tables.Performances.{create_performance, performance, upsert_performance, performance_values, performance_read, performance_form}
-use Rattle.office_tables.specs.Schema.OfficeTable.{Performances}
+use Rattle.office_tables.proofs.Names.{PerformanceRow, performance_at, create_performance, performance, upsert_performance, performance_values, performance_read, performance_form, Performances}
 
 -- ---- the table
 

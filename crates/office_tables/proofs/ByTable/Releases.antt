@@ -1,12 +1,8 @@
 -- Releases: what is shown of their table, of the text that puts one, and of each question.
 use Rattle.office_tables.proofs.TableTools.{◌≡◌, inl, inr, ◌&&◌, ◌∷◌, [], List, ℕ, pos, Some, codes, refl, ap, ap₂, ◌∙◌, map, slice_get, drop, option_map, range_with_len, nat_cmp, Int, Text, first_key, Row, value_cmp-Text, same_name, Schema, Select, alone, chosen, first_found, max_budget, first, everything, State, Shown, id_cmp, same_id, Tables, same_number, releases_exact, same_id_is, releases_total, text_column, number_column, IsIn, at_tree, Holds, cast_null, cast_int, texts_equal, equal_texts, numbers_equal, equal_numbers, both_true, first_true, text_tested, number_tested, numbers_cmp, and_true, pair_then, both_equal, same_number_is, indexed, StatementMeans, parsed_in, equals_e, both_e, names_of, outputs_of, Has, one_test, two_tests, select, columns_of, left, IsSelect, selects_mean, found_by_tree, gets, lists, shows_rows, Shape, behind_rowid, columns_in, rows_in, clause_in, IsStored, ReadsTable, creates_it, IsOfficeTable, IsPutText, IsPutOf, StaysBeside}
 use Rattle.office_base.specs.declared.puts.Put.TheVariants as put
-use Rattle.office_base.specs.declared.records.ReleaseRow.{ReleaseRow}
-use Rattle.sqlite_schema.specs.declared.schema.Column.{Column}
+use Rattle.office_tables.proofs.Names.{ReleaseRow, Column, release_at, release_numbers, releases_of_notice, create_releases, releases, upsert_releases, release_values, release_read, release_form, number_read, number_row, Releases}
 use Rattle.sqlite_sql.specs.Query.{Output}
-use Rattle.office_base.specs.Tables.{release_at, release_numbers, releases_of_notice}
-use Rattle.office_tables.specs.Tables.Releases.{create_releases, releases, upsert_releases, release_values, release_read, release_form, number_read, number_row}
-use Rattle.office_tables.specs.Schema.OfficeTable.{Releases}
 
 -- ---- the table
 

@@ -1,10 +1,7 @@
 -- The bytes of tenders: what is shown of their table, of the text that puts one, and of each question.
 use Rattle.office_tables.proofs.TableTools.{◌≡◌, inr, ◌∷◌, [], List, ℕ, pos, Some, codes, refl, ap, ◌∙◌, slice_get, drop, option_map, range_with_len, nat_cmp_total, numbers_exact, Null, Int, first_key, Row, same_name, Schema, Select, Delete, alone, chosen, first_found, max_budget, nothing, first, everything, State, Shown, Tables, same_number, after_put, number_column, IsIn, at_tree, Holds, cast_null, cast_int, numbers_equal, equal_numbers, one_true, only_true, number_tested, and_true, same_number_is, numbered, StatementMeans, IsOne, parsed_in, equals_e, names_of, outputs_of, Has, one_test, select, columns_of, left, IsSelect, selects_mean, found_by_tree, gets, Shape, at_rowid, columns_in, rows_in, clause_in, IsStored, with_rows, OfficeTable, StandFor, Stands, ReadsTable, creates_it, IsDelete, delete_means, IsOfficeTable, IsPutText, IsPutOf, StaysBeside}
 use Rattle.office_base.specs.declared.puts.Put.TheVariants as put
-use Rattle.office_base.specs.declared.records.SealRow.{SealRow}
-use Rattle.office_base.specs.Tables.{seal_at}
-use Rattle.office_tables.specs.Tables.Seals.{create_seals, seals, upsert_seals, delete_seal, seal_values, seal_read, seal_form}
-use Rattle.office_tables.specs.Schema.OfficeTable.{Seals}
+use Rattle.office_tables.proofs.Names.{SealRow, seal_at, create_seals, seals, upsert_seals, delete_seal, seal_values, seal_read, seal_form, Seals}
 
 -- ---- the table
 

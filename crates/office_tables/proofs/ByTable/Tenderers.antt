@@ -1,11 +1,7 @@
 -- Tenderers: what is shown of their table, of the text that puts one, and of each question.
 use Rattle.office_tables.proofs.TableTools.{◌≡◌, inl, ◌∷◌, [], List, ℕ, pos, None, Some, codes, refl, ap, ◌∙◌, map, slice_get, drop, option_map, range_with_len, is_lt, nat_list_cmp_total, Int, Text, Binary, first_key, Row, value_cmp-Text, col, op2, Compare, Gt, same_name, Schema, Select, alone, chosen, first_found, max_budget, first, everything, State, Shown, id_cmp, same_id, Tables, ids_exact, same_id_is, text_column, IsIn, at_tree, Holds, cast_null, cast_int, texts_equal, equal_texts, one_true, only_true, text_tested, and_true, then_equal, text_above, indexed, StatementMeans, parsed_in, parameter_counts, equals_e, above_e, count_e, names_of, outputs_of, Has, no_test, one_test, above_test, out_parameter, select, capped_select, columns_of, left, IsSelect, IsCapped, selects_mean, capped_selects_mean, found_by_tree, gets, pages, Shape, behind_rowid, columns_in, rows_in, clause_in, IsStored, ReadsTable, creates_it, IsOfficeTable, IsPutText, IsPutOf, StaysBeside}
 use Rattle.office_base.specs.declared.puts.Put.TheVariants as put
-use Rattle.office_base.specs.declared.records.TendererRow.{TendererRow}
-use Rattle.office_base.specs.Tables.{tenderer_at}
-use Rattle.office_base.specs.Pages.{is_after, tenderers_after}
-use Rattle.office_tables.specs.Tables.Tenderers.{create_tenderers, tenderers, upsert_tenderers, tenderer_values, tenderer_read, tenderer_form}
-use Rattle.office_tables.specs.Schema.OfficeTable.{Tenderers}
+use Rattle.office_tables.proofs.Names.{TendererRow, tenderer_at, is_after, tenderers_after, create_tenderers, tenderers, upsert_tenderers, tenderer_values, tenderer_read, tenderer_form, Tenderers}
 
 -- ---- the table
 

@@ -1,9 +1,4 @@
-use Rattle.std.proofs.Common.{◌≡◌, drop}
-use Rattle.std.specs.List.{list_all}
-use Rattle.office_base.specs.declared.records.LotRow.{LotRow}
-use Rattle.office_base.specs.Shelves.{Looks}
-use Rattle.office_base.specs.Tables.{line_at}
-use Rattle.office_desk.specs.MovedLines.{held_line_adds_up}
+use Rattle.office_desk.proofs.Names.{◌≡◌, drop, list_all, LotRow, Looks, line_at, held_line_adds_up}
 use Rattle.office_desk.proofs.moved_lines.lots_add_up.Given as goal
 
 abbrev pub invariant-loop-lot : goal.invariant-loop-lot

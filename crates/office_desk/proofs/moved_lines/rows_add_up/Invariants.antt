@@ -1,9 +1,4 @@
-use Rattle.std.proofs.Common.{◌≡◌, drop}
-use Rattle.std.specs.List.{list_all}
-use Rattle.office_commands.specs.declared.budget.BudgetRow.{BudgetRow}
-use Rattle.office_base.specs.Shelves.{Looks}
-use Rattle.office_base.specs.Tables.{line_at}
-use Rattle.office_desk.specs.MovedLines.{line_adds_up}
+use Rattle.office_desk.proofs.Names.{◌≡◌, drop, list_all, BudgetRow, Looks, line_at, line_adds_up}
 use Rattle.office_desk.proofs.moved_lines.rows_add_up.Given as goal
 
 abbrev pub invariant-loop-row : goal.invariant-loop-row

@@ -1,6 +1,4 @@
-use Rattle.std.proofs.Common.{subst, sym}
-use Rattle.office_commands.specs.declared.queries.Query.{Query}
-use Rattle.office_desk.specs.Steps.{TellsQuery}
+use Rattle.office_desk.proofs.Names.{subst, sym, Query, TellsQuery}
 use Rattle.office_desk.proofs.queries.look_at.Goals as goal
 
 pub returns-in-Record-clause-tells : goal.returns-in-Record-clause-tells

@@ -1,5 +1,4 @@
-use Rattle.std.proofs.Common.{[], ◌∙◌, inl, inr}
-use Rattle.office_http.specs.Answering.{held_by}
+use Rattle.office_http.proofs.Names.{[], ◌∙◌, inl, inr, held_by}
 use Rattle.office_http.proofs.answering.answer.Goals as goal
 
 pub returns-in-Ok-clause-answered : goal.returns-in-Ok-clause-answered

@@ -1,12 +1,6 @@
-use Rattle.std.proofs.Common.{rules, ◌≡◌, false, None, Result, Ok, Err, refl, subst, inl, ◌∙◌}
-use Rattle.office_values.specs.declared.refusal.Refusal.{Refusal}
-use Rattle.office_requests.specs.declared.asked.Asked.{Asked}
-use Rattle.office_requests.specs.declared.asked.Asked.TheVariants.{Does, Looks}
-use Rattle.office_http.specs.Inside.Meant.{AnswersMeant, IsCertain}
-use Rattle.office_http.specs.Answering.{ChangesOnlyAccepting, IsTold, ShowsMeant}
+use Rattle.office_http.proofs.Names.{rules, ◌≡◌, false, None, Result, Ok, Err, refl, subst, inl, ◌∙◌, Refusal, Asked, Does, AnswersMeant, IsCertain, ChangesOnlyAccepting, IsTold, ShowsMeant, Refuses, meant_asked, response_of}
+use Rattle.office_requests.specs.declared.asked.Asked.TheVariants.{Looks}
 use Rattle.office_http.proofs.CertainSteps.{certain_refusal}
-use Rattle.office_http.specs.Meaning.{Refuses, meant_asked}
-use Rattle.office_http.specs.Response.{response_of}
 use Rattle.office_http.specs.declared.reply.Reply.TheVariants.{Refused}
 use Rattle.office_http.proofs.AnswerSteps.{is_refused}
 use Rattle.office_http.proofs.RequestSteps.{tells_some}

@@ -1,11 +1,6 @@
-use Rattle.std.proofs.Common.{◌∙◌, ap, subst, ℕ, List, inl, inr}
-use Rattle.office_base.specs.Tables.{after_puts}
-use Rattle.office_base.specs.declared.puts.Put.{Put}
-use Rattle.office_http.specs.Response.{response_of}
-use Rattle.office_http.specs.declared.reply.Reply.TheVariants.{Json}
+use Rattle.office_http.proofs.Names.{◌∙◌, ap, subst, ℕ, List, inl, inr, after_puts, Put, response_of, Json, Gives}
 use Rattle.office_http.proofs.CertainSteps.{certain_command, nothing_certain}
 use Rattle.office_http.proofs.AlwaysTold.{tells_done_command, tells_refused_command, tells_unavailable}
-use Rattle.office_http.specs.Meaning.{Gives}
 use Rattle.office_http.proofs.AnswerSteps.{command_done, command_refused, command_undone}
 use Rattle.office_http.proofs.answering.answer_command.Goals as goal
 

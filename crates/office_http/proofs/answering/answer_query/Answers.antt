@@ -1,8 +1,4 @@
-use Rattle.std.proofs.Common.{◌∙◌, None, ap, inr, inl}
-use Rattle.office_commands.specs.declared.command.QueryKind.{QueryKind}
-use Rattle.office_http.specs.Answering.{seen_as}
-use Rattle.office_http.specs.Meaning.{Sees}
-use Rattle.office_http.specs.Response.{response_of}
+use Rattle.office_http.proofs.Names.{◌∙◌, None, ap, inr, inl, QueryKind, seen_as, Sees, response_of}
 use Rattle.office_http.proofs.AlwaysTold.{tells_refused_query, tells_shown_query, tells_unavailable}
 use Rattle.office_http.proofs.CertainSteps.{refused_query, shown_query}
 use Rattle.office_http.proofs.AnswerSteps.{query_refused, query_told}

@@ -1,13 +1,7 @@
-use Rattle.std.proofs.Common.{◌≡◌, ℕ, None, sym, subst, inl, inr}
-use Rattle.office_values.specs.declared.settings.Settings.{Settings}
-use Rattle.office_publications.specs.Standing.{IsReached}
-use Rattle.office_http.specs.Inside.Meant.{Answered, CanBeMeant}
-use Rattle.office_http.specs.Meaning.{meant, meant_asked}
+use Rattle.office_http.proofs.Names.{◌≡◌, ℕ, None, sym, subst, inl, inr, Settings, IsReached, Answered, CanBeMeant, meant, meant_asked, HasRisen, NeedsMeant, ShowsMeant}
 use Rattle.office_http.proofs.LeftSteps.{stops_then}
-use Rattle.office_base.specs.Faults.{HasRisen}
 use Rattle.office_http.proofs.CertainSteps.{Certain, certain_asked, certain_nobody, certain_route}
 use Rattle.office_http.proofs.AlwaysTold.{Tells, tells_asked, tells_no_route, tells_nobody}
-use Rattle.office_http.specs.Answering.{NeedsMeant, ShowsMeant}
 use Rattle.office_http.proofs.SightSteps.{sight_of_asker, sight_of_nobody, sight_of_route}
 use Rattle.office_http.proofs.RequestSteps.{asked_answered, asked_gives, asked_shown, caller_refused, refused_shows, route_refused, tells_some}
 use Rattle.office_http.proofs.answering.answer_read.Goals as goal

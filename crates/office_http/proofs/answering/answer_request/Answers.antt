@@ -1,4 +1,4 @@
-use Rattle.office_publications.specs.Standing.{IsReached}
+use Rattle.office_http.proofs.Names.{IsReached}
 use Rattle.office_http.proofs.answering.answer_request.Goals as goal
 
 pub returns-clause-kept : goal.returns-clause-kept

@@ -1,4 +1,4 @@
-use Rattle.std.specs.Prelude.{codes}
+use Rattle.office_http.proofs.Names.{codes}
 use Rattle.office_http.proofs.ShortTexts.{fit, fit_as, fits_then}
 use Rattle.office_http.proofs.refusing.put_name.Goals as goal
 

@@ -1,6 +1,4 @@
-use Rattle.std.proofs.Common.{◌≡◌, ◌∙◌, arith}
-use Rattle.std.specs.Prelude.{codes, decimal}
-use Rattle.std.proofs.lemmas.Fmt.{length-decimal-le}
+use Rattle.office_http.proofs.Names.{◌≡◌, ◌∙◌, arith, codes, decimal, length-decimal-le}
 use Rattle.office_http.proofs.ShortTexts.{fit, fit_as, fits_then}
 use Rattle.office_http.proofs.refusing.put_row.Goals as goal
 

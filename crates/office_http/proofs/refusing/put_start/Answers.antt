@@ -1,6 +1,4 @@
-use Rattle.std.proofs.Common.{◌≡◌, ◌∙◌}
-use Rattle.std.specs.Prelude.{codes, decimal}
-use Rattle.office_http.specs.Response.{json, phrase_of}
+use Rattle.office_http.proofs.Names.{◌≡◌, ◌∙◌, codes, decimal, json, phrase_of}
 use Rattle.office_http.proofs.ShortTexts.{fit, fit_as, fits_then}
 use Rattle.office_http.proofs.refusing.put_start.Goals as goal
 

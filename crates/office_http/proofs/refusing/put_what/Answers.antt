@@ -1,9 +1,5 @@
-use Rattle.std.proofs.Common.{◌≡◌, Option, None, Some, ap, append-nil, option_map, rules, subst, sym}
+use Rattle.office_http.proofs.Names.{◌≡◌, Option, None, Some, ap, append-nil, option_map, rules, subst, sym, What, Name, Row, FitsBehind, what_member}
 use Rattle.office_values.specs.Refusals.{told}
-use Rattle.office_values.specs.declared.refusal.What.{What}
-use Rattle.office_values.specs.declared.refusal.What.TheVariants.{Name, Row}
-use Rattle.office_wire.specs.Short.{FitsBehind}
-use Rattle.office_http.specs.Response.{what_member}
 use Rattle.office_http.proofs.ShortRefusals.{numbers_named, numbers_none, numbers_row}
 use Rattle.office_http.proofs.refusing.put_what.Goals as goal
 

@@ -1,7 +1,5 @@
-use Rattle.std.proofs.Common.{◌≡◌, ◌≤◌, ◌∙◌, ap, arith, length, option_map}
-use Rattle.std.specs.Prelude.{codes, decimal}
-use Rattle.office_values.specs.Refusals.{name_of_refusal, number_of_refusal, subject_of_refusal, told}
-use Rattle.office_http.specs.Response.{refusal_body, what_member}
+use Rattle.office_http.proofs.Names.{◌≡◌, ◌≤◌, ◌∙◌, ap, arith, length, option_map, codes, decimal, name_of_refusal, number_of_refusal, subject_of_refusal, refusal_body, what_member}
+use Rattle.office_values.specs.Refusals.{told}
 use Rattle.office_http.proofs.ShortRefusals.{about_short, body_short}
 use Rattle.office_http.proofs.ShortTexts.{fit, fit_as, fits_new, fits_then}
 use Rattle.office_http.proofs.refusing.refusal_object.Goals as goal

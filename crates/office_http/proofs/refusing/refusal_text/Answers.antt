@@ -1,8 +1,4 @@
-use Rattle.std.proofs.Common.{◌≡◌, ◌≤◌, ℕ, ◌∙◌, ap, arith, length}
-use Rattle.std.specs.Prelude.{codes, decimal}
-use Rattle.std.proofs.lemmas.Fmt.{length-decimal-le}
-use Rattle.office_values.specs.Refusals.{status_of_refusal}
-use Rattle.office_http.specs.Response.{allow_field, challenge_field, head_start, json, refusal_body, response_of}
+use Rattle.office_http.proofs.Names.{◌≡◌, ◌≤◌, ℕ, ◌∙◌, ap, arith, length, codes, decimal, length-decimal-le, status_of_refusal, allow_field, challenge_field, head_start, json, refusal_body, response_of}
 use Rattle.office_http.specs.declared.reply.Reply.TheVariants.{Refused}
 use Rattle.office_http.proofs.ShortRefusals.{response_short}
 use Rattle.office_http.proofs.ShortTexts.{fit, fit_as, fits_new, fits_then}

@@ -1,5 +1,4 @@
-use Rattle.std.proofs.Common.{refl}
-use Rattle.std.specs.Fmt.{digits}
+use Rattle.office_http.proofs.Names.{refl, digits}
 use Rattle.office_http.proofs.response.coding.Goals as goal
 
 pub returns : goal.returns

@@ -1,5 +1,4 @@
-use Rattle.std.proofs.Common.{List, ℕ, ◌++◌, ◌∙◌, ap, codes}
-use Rattle.office_http.specs.Response.{head_start}
+use Rattle.office_http.proofs.Names.{List, ℕ, ◌++◌, ◌∙◌, ap, codes, head_start}
 use Rattle.office_http.proofs.response.ok_head.Goals as goal
 
 pub returns : goal.returns

@@ -1,4 +1,4 @@
-use Rattle.std.proofs.Common.{◌≡◌, ℕ, List, ◌++◌, length, vec_len, ap, ◌∙◌, rules}
+use Rattle.office_http.proofs.Names.{◌≡◌, ℕ, List, ◌++◌, length, vec_len, ap, ◌∙◌, rules}
 use Rattle.office_http.proofs.Joining.{turned}
 use Rattle.office_http.proofs.response.put_before.Goals as goal
 

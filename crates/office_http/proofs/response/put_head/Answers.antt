@@ -1,6 +1,4 @@
-use Rattle.std.proofs.Common.{◌≡◌, ◌∙◌}
-use Rattle.std.specs.Prelude.{decimal}
-use Rattle.office_http.specs.Response.{phrase_of}
+use Rattle.office_http.proofs.Names.{◌≡◌, ◌∙◌, decimal, phrase_of}
 use Rattle.office_http.proofs.Joining.{eight_behind, put_as}
 use Rattle.office_http.proofs.response.put_head.Goals as goal
 

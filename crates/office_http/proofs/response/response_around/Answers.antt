@@ -1,5 +1,4 @@
-use Rattle.std.proofs.Common.{◌≡◌, ◌∙◌, length, codes, rules}
-use Rattle.office_http.specs.Response.{head_start}
+use Rattle.office_http.proofs.Names.{◌≡◌, ◌∙◌, length, codes, rules, head_start}
 use Rattle.office_http.proofs.Joining.{around}
 use Rattle.office_http.proofs.response.response_around.Goals as goal
 

@@ -1,6 +1,4 @@
-use Rattle.std.proofs.Common.{map, take}
-use Rattle.office_ledger.specs.Listing.{HasListed}
-use Rattle.office_ledger.specs.Reading.{joined_lot_read}
+use Rattle.office_ledger.proofs.Names.{map, take, HasListed, joined_lot_read}
 use Rattle.office_ledger.proofs.adding.amounts_of_rows.Given as goal
 
 abbrev pub invariant-rows : goal.invariant-rows

@@ -1,6 +1,4 @@
-use Rattle.std.proofs.Common.{map, take}
-use Rattle.office_ledger.specs.Taking.{HasTaken}
-use Rattle.office_ledger.specs.Reading.{joined_read}
+use Rattle.office_ledger.proofs.Names.{map, take, HasTaken, joined_read}
 use Rattle.office_ledger.proofs.adding.ledger_of_rows.Given as goal
 
 abbrev pub invariant-rows : goal.invariant-rows

@@ -1,4 +1,4 @@
-use Rattle.std.proofs.Common.{refl}
+use Rattle.office_ledger.proofs.Names.{refl}
 use Rattle.office_ledger.proofs.examples.worked_join.Goals as goal
 
 pub returns : goal.returns

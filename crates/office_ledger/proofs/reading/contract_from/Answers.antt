@@ -1,6 +1,4 @@
-use Rattle.office_ledger.specs.Cells.{contract_cells}
-use Rattle.office_ledger.specs.Parts.{columns_of_contract}
-use Rattle.office_ledger.specs.Fits.{ContractFits}
+use Rattle.office_ledger.proofs.Names.{contract_cells, columns_of_contract, ContractFits}
 use Rattle.office_ledger.proofs.Parted.{not_read}
 use Rattle.office_ledger.proofs.reading.contract_from.Goals as goal
 

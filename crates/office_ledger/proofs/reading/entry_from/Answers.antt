@@ -1,6 +1,4 @@
-use Rattle.office_ledger.specs.Cells.{entry_cells}
-use Rattle.office_ledger.specs.Parts.{columns_of_entry}
-use Rattle.office_ledger.specs.Fits.{EntryFits}
+use Rattle.office_ledger.proofs.Names.{entry_cells, columns_of_entry, EntryFits}
 use Rattle.office_ledger.proofs.Parted.{not_read}
 use Rattle.office_ledger.proofs.reading.entry_from.Goals as goal
 

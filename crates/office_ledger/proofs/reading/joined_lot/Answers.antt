@@ -1,14 +1,5 @@
-use Rattle.std.proofs.Common.{◌≡◌, ap, sym, subst, ◌∙◌, IfOk, IfErr}
-use Rattle.std.proofs.lemmas.Result.{IfOk-weaker}
-use Rattle.sqlite_value.specs.Order.{Row}
-use Rattle.office_base.specs.Faults.{IsFaultOf}
-use Rattle.office_tables.specs.Unwritten.{IsUnwritten}
-use Rattle.office_ledger.specs.declared.joined.JoinedLot.{JoinedLot}
-use Rattle.office_ledger.specs.Reading.{joined_lot_read}
-use Rattle.office_ledger.specs.Shows.{joined_lot_cells}
-use Rattle.office_ledger.specs.Fits.{LotFits}
+use Rattle.office_ledger.proofs.Names.{◌≡◌, ap, sym, subst, ◌∙◌, IfOk, IfErr, IfOk-weaker, Row, IsFaultOf, IsUnwritten, JoinedLot, joined_lot_read, joined_lot_cells, LotFits, columns_are}
 use Rattle.office_ledger.proofs.BackAgain.{lot_back}
-use Rattle.office_tables.proofs.Exactly.{columns_are}
 use Rattle.office_ledger.proofs.reading.joined_lot.Goals as goal
 
 exact : goal.returns-clause-exact

@@ -1,7 +1,5 @@
-use Rattle.std.proofs.Common.{ap, sym, ◌∙◌, ◌∷◌}
-use Rattle.office_ledger.specs.Reading.{joined_read}
+use Rattle.office_ledger.proofs.Names.{ap, sym, ◌∙◌, ◌∷◌, joined_read, columns_are}
 use Rattle.office_ledger.proofs.BackAgain.{row_back}
-use Rattle.office_tables.proofs.Exactly.{columns_are}
 use Rattle.office_ledger.proofs.reading.joined_row.Goals as goal
 
 exact : goal.returns-clause-exact

@@ -1,6 +1,4 @@
-use Rattle.office_ledger.specs.Cells.{lot_cells}
-use Rattle.office_ledger.specs.Parts.{columns_of_lot}
-use Rattle.office_ledger.specs.Fits.{LotFits}
+use Rattle.office_ledger.proofs.Names.{lot_cells, columns_of_lot, LotFits}
 use Rattle.office_ledger.proofs.Parted.{not_read}
 use Rattle.office_ledger.proofs.reading.lot_from.Goals as goal
 

@@ -1,4 +1,4 @@
-use Rattle.sqlite.specs.Held.{state}
+use Rattle.office_ledger.proofs.Names.{state}
 use Rattle.office_ledger.proofs.Laws.{join_begun}
 use Rattle.office_ledger.proofs.select.join_is_begun.Goals as goal
 

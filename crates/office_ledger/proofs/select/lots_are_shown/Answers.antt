@@ -1,4 +1,4 @@
-use Rattle.sqlite.specs.Held.{state}
+use Rattle.office_ledger.proofs.Names.{state}
 use Rattle.office_ledger.proofs.Laws.{lots_shown}
 use Rattle.office_ledger.proofs.select.lots_are_shown.Goals as goal
 

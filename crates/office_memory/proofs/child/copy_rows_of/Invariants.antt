@@ -1,5 +1,4 @@
-use Rattle.std.proofs.Common.{◌≡◌, ◌++◌, filter}
-use Rattle.std.specs.Map.{values_of}
+use Rattle.office_memory.proofs.Names.{◌≡◌, ◌++◌, filter, values_of}
 use Rattle.office_memory.proofs.child.copy_rows_of.Given as goal
 
 -- the copied rows and the remaining rows of the range are the rows of the parent

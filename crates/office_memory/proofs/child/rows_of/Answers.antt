@@ -1,5 +1,4 @@
-use Rattle.std.proofs.Common.{◌∙◌}
-use Rattle.keyed_table.proofs.RowRanges.{between_is}
+use Rattle.office_memory.proofs.Names.{◌∙◌, between_is}
 use Rattle.office_memory.proofs.child.rows_of.Goals as goal
 
 pub returns-clause-rows : goal.returns-clause-rows

@@ -1,6 +1,4 @@
-use Rattle.std.proofs.Common.{◌∙◌}
-use Rattle.std.specs.BTreeMap.{is_at}
-use Rattle.std.specs.BTreeSet.{contains}
+use Rattle.office_memory.proofs.Names.{◌∙◌, is_at, contains}
 use Rattle.office_memory.proofs.GroupIndex.{contains_more}
 use Rattle.office_memory.proofs.group_index.add_to.Goals as goal
 

@@ -1,4 +1,4 @@
-use Rattle.std.proofs.Common.{◌≡◌, map, take}
+use Rattle.office_memory.proofs.Names.{◌≡◌, map, take}
 use Rattle.office_memory.proofs.group_index.copies.Given as goal
 
 abbrev pub invariant-loop-row : goal.invariant-loop-row

@@ -1,4 +1,4 @@
-use Rattle.office_memory.specs.Inside.IdBounds.{greatest}
+use Rattle.office_memory.proofs.Names.{greatest}
 use Rattle.office_memory.proofs.IdBounds.{greatest_is_id}
 use Rattle.office_memory.proofs.id_bounds.greatest_id.Goals as goal
 

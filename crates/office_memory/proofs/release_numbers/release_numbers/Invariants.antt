@@ -1,7 +1,4 @@
-use Rattle.std.proofs.Common.{◌≡◌, ◌++◌, filter, map}
-use Rattle.std.specs.Map.{values_of}
-use Rattle.office_values.specs.Ids.{same_id}
-use Rattle.office_base.specs.declared.records.ReleaseRow.{ReleaseRow}
+use Rattle.office_memory.proofs.Names.{◌≡◌, ◌++◌, filter, map, values_of, same_id, ReleaseRow}
 use Rattle.office_memory.proofs.release_numbers.release_numbers.Given as goal
 
 -- the numbers so far and those of the remaining releases are the numbers of all releases of the notice

@@ -1,7 +1,4 @@
-use Rattle.std.proofs.Common.{◌≡◌, ap, ◌∙◌}
-use Rattle.office_base.specs.Joined.{reservations, sums_under, sums_of_line}
-use Rattle.office_base.specs.Tables.{lots_of_line}
-use Rattle.office_memory.specs.MemoryTables.{tables_of}
+use Rattle.office_memory.proofs.Names.{◌≡◌, ap, ◌∙◌, reservations, sums_under, sums_of_line, lots_of_line, tables_of}
 use Rattle.office_memory.proofs.Reserved.{reserved_is}
 use Rattle.office_memory.proofs.sums.amounts_of_line.Goals as goal
 

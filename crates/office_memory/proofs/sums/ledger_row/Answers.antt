@@ -1,6 +1,4 @@
-use Rattle.std.proofs.Common.{ap, ◌∙◌}
-use Rattle.office_base.specs.declared.ledger.LineAmounts.{LineAmounts}
-use Rattle.office_memory.specs.MemoryTables.{tables_of}
+use Rattle.office_memory.proofs.Names.{ap, ◌∙◌, LineAmounts, tables_of}
 use Rattle.office_memory.proofs.AddedUp.{row_found, no_row}
 use Rattle.office_memory.proofs.sums.ledger_row.Goals as goal
 

@@ -1,9 +1,4 @@
-use Rattle.std.proofs.Common.{◌++◌, map, filter, ap, ◌∙◌}
-use Rattle.office_values.specs.Ids.{same_id}
-use Rattle.office_base.specs.Joined.{sums_of}
-use Rattle.office_base.specs.declared.records.ContractRow.{ContractRow}
-use Rattle.office_memory.specs.MemoryTables.{tables_of}
-use Rattle.office_base.proofs.RowLaws.Filters.{filter_filter}
+use Rattle.office_memory.proofs.Names.{◌++◌, map, filter, ap, ◌∙◌, same_id, sums_of, ContractRow, tables_of, filter_filter}
 use Rattle.office_memory.proofs.sums.push_sums.Goals as goal
 
 pub loop-contract-init : goal.loop-contract-init

@@ -1,9 +1,4 @@
-use Rattle.std.proofs.Common.{◌≡◌, ◌++◌, filter, map}
-use Rattle.office_values.specs.Ids.{same_id}
-use Rattle.office_base.specs.Joined.{sums_of}
-use Rattle.office_base.specs.Tables.{contracts_of_lot, lot_key}
-use Rattle.office_base.specs.declared.records.ContractRow.{ContractRow}
-use Rattle.office_memory.specs.MemoryTables.{tables_of}
+use Rattle.office_memory.proofs.Names.{◌≡◌, ◌++◌, filter, map, same_id, sums_of, contracts_of_lot, lot_key, ContractRow, tables_of}
 use Rattle.office_memory.proofs.sums.push_sums.Given as goal
 
 -- the sums that were appended and those of the remaining contracts are all sums of the lot

@@ -1,4 +1,4 @@
-use Rattle.std.proofs.Common.{◌≡◌, map, take}
+use Rattle.office_memory.proofs.Names.{◌≡◌, map, take}
 use Rattle.office_memory.proofs.sums.reserved_by.Given as goal
 
 abbrev pub invariant-loop-lot : goal.invariant-loop-lot

@@ -1,9 +1,4 @@
-use Rattle.std.proofs.Common.{◌≡◌, ◌+◌, ◌∷◌, [], length, sym, ap, ◌∙◌, subst, arith, ℕ}
-use Rattle.std.specs.Map.{values_of}
-use Rattle.office_base.specs.EntrySums.{sums_with_entry, sums_with_entries}
-use Rattle.office_base.specs.declared.records.EntryRow.{EntryRow}
-use Rattle.office_base.proofs.EntrySums.{sums_are}
-use Rattle.office_memory.specs.Inside.Adding.{HasRoom}
+use Rattle.office_memory.proofs.Names.{◌≡◌, ◌+◌, ◌∷◌, [], length, sym, ap, ◌∙◌, subst, arith, ℕ, values_of, sums_with_entry, sums_with_entries, EntryRow, sums_are, HasRoom}
 use Rattle.office_memory.proofs.AddedUp.{entry_room}
 use Rattle.office_memory.proofs.sums.sums_of.Goals as goal
 

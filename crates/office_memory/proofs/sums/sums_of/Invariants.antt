@@ -1,9 +1,4 @@
-use Rattle.std.proofs.Common.{◌≡◌, filter, length}
-use Rattle.std.specs.Map.{values_of}
-use Rattle.office_base.specs.Tables.{same_number}
-use Rattle.office_base.specs.declared.records.EntryRow.{EntryRow}
-use Rattle.office_base.specs.EntrySums.{bare_sums, sums_with_entries}
-use Rattle.office_memory.specs.Inside.Adding.{HasRoom}
+use Rattle.office_memory.proofs.Names.{◌≡◌, filter, length, values_of, same_number, EntryRow, bare_sums, sums_with_entries, HasRoom}
 use Rattle.office_memory.proofs.sums.sums_of.Given as goal
 
 -- adding the remaining entries gives the sums of the contract, and doesn't overflow

@@ -1,6 +1,4 @@
-use Rattle.std.proofs.Common.{◌≡◌, ◌++◌, map}
-use Rattle.office_base.specs.Joined.{sums_under}
-use Rattle.office_memory.specs.MemoryTables.{tables_of}
+use Rattle.office_memory.proofs.Names.{◌≡◌, ◌++◌, map, sums_under, tables_of}
 use Rattle.office_memory.proofs.sums.sums_under.Given as goal
 
 -- the sums so far and those of the remaining lots are the sums of all lots

@@ -1,8 +1,4 @@
-use Rattle.std.proofs.Common.{◌≡◌, ◌+◌, List, [], ◌∷◌, ◌++◌, length, ap, sym, ◌∙◌, subst, arith}
-use Rattle.office_base.specs.Tables.{after_puts}
-use Rattle.office_memory.specs.Inside.Drops.{without_seals}
-use Rattle.office_memory.specs.MemoryTables.{tables_of, after_undos, CanUndoAll}
-use Rattle.office_memory.specs.declared.tables.Undo.{Undo}
+use Rattle.office_memory.proofs.Names.{◌≡◌, ◌+◌, List, [], ◌∷◌, ◌++◌, length, ap, sym, ◌∙◌, subst, arith, after_puts, without_seals, tables_of, after_undos, CanUndoAll, Undo}
 use Rattle.office_memory.proofs.Undoing.{made_one}
 use Rattle.office_memory.proofs.tables.apply_all.Goals as goal
 

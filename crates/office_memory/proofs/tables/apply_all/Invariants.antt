@@ -1,7 +1,4 @@
-use Rattle.std.proofs.Common.{◌≡◌, ◌+◌, ◌≤◌, length, vec_len, vec_capacity}
-use Rattle.office_base.specs.Tables.{after_puts}
-use Rattle.office_memory.specs.Inside.Drops.{without_seals}
-use Rattle.office_memory.specs.MemoryTables.{tables_of, after_undos, CanUndoAll}
+use Rattle.office_memory.proofs.Names.{◌≡◌, ◌+◌, ◌≤◌, length, vec_len, vec_capacity, after_puts, without_seals, tables_of, after_undos, CanUndoAll}
 use Rattle.office_memory.proofs.tables.apply_all.Given as goal
 
 -- The remaining changes lead to the tables after all changes. Those made can be taken back, and the list of them can take the rest without memory.

@@ -1,6 +1,4 @@
-use Rattle.std.proofs.Common.{◌≡◌}
-use Rattle.office_memory.specs.Inside.Drops.{without_seals}
-use Rattle.office_memory.specs.MemoryTables.{tables_of}
+use Rattle.office_memory.proofs.Names.{◌≡◌, without_seals, tables_of}
 use Rattle.office_memory.proofs.tables.drop_all.Given as goal
 
 -- the remaining drops lead to the tables after all drops

@@ -1,5 +1,4 @@
-use Rattle.std.proofs.Common.{rules}
-use Rattle.std.proofs.lemmas.Fn.{filter_same}
+use Rattle.office_memory.proofs.Names.{rules, filter_same}
 use Rattle.office_memory.proofs.tables.forget.Goals as goal
 
 pub returns : goal.returns

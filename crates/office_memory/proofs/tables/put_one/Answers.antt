@@ -1,9 +1,4 @@
-use Rattle.std.proofs.Common.{ap, sym, ◌∙◌, List}
-use Rattle.std.specs.Ordering.{nat_cmp}
-use Rattle.office_base.specs.Tables.{seal_key, after_put}
-use Rattle.office_base.specs.declared.records.SealRow.{SealRow}
-use Rattle.office_memory.specs.Inside.Drops.{rows_drop, without_seals}
-use Rattle.office_memory.specs.MemoryTables.{tables_of}
+use Rattle.office_memory.proofs.Names.{ap, sym, ◌∙◌, List, nat_cmp, seal_key, after_put, SealRow, rows_drop, without_seals, tables_of}
 use Rattle.office_memory.proofs.RowsDropped.{rows_drop-push}
 use Rattle.office_memory.proofs.tables.put_one.Goals as goal
 

@@ -1,9 +1,4 @@
-use Rattle.std.proofs.Common.{ap, ◌∙◌, List}
-use Rattle.std.specs.Ordering.{nat_cmp}
-use Rattle.office_base.specs.Tables.{seal_key, put_seal}
-use Rattle.office_base.specs.declared.records.SealRow.{SealRow}
-use Rattle.office_memory.specs.Inside.Drops.{rows_drop}
-use Rattle.office_memory.specs.MemoryTables.{tables_of}
+use Rattle.office_memory.proofs.Names.{ap, ◌∙◌, List, nat_cmp, seal_key, put_seal, SealRow, rows_drop, tables_of}
 use Rattle.office_memory.proofs.SealsDropped.{seal_put}
 use Rattle.office_memory.proofs.tables.put_seal.Goals as goal
 

@@ -1,6 +1,4 @@
-use Rattle.std.proofs.Common.{subst, List}
-use Rattle.office_memory.specs.MemoryTables.{tables_of, CanUndoAll}
-use Rattle.office_memory.specs.declared.tables.Undo.{Undo}
+use Rattle.office_memory.proofs.Names.{subst, List, tables_of, CanUndoAll, Undo}
 use Rattle.office_memory.proofs.Undoing.{can_undo-last, taken_back_one}
 use Rattle.office_memory.proofs.tables.take_back_all.Goals as goal
 

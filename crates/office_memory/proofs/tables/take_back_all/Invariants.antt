@@ -1,5 +1,4 @@
-use Rattle.std.proofs.Common.{◌≡◌, vec_len}
-use Rattle.office_memory.specs.MemoryTables.{tables_of, after_undos, CanUndoAll}
+use Rattle.office_memory.proofs.Names.{◌≡◌, vec_len, tables_of, after_undos, CanUndoAll}
 use Rattle.office_memory.proofs.tables.take_back_all.Given as goal
 
 abbrev pub invariant-loop-undo : goal.invariant-loop-undo

@@ -1,16 +1,5 @@
-use Rattle.std.specs.Prelude.{◌≡◌, Result}
-use Rattle.std.proofs.Common.{subst, sym}
-use Rattle.office_commands.specs.declared.commands.Command.{Command}
-use Rattle.office_commands.specs.declared.commands.Command.TheVariants.{Import, Register, AmendNotice, Present, Modify, Withdraw, Examine, Award, Sign, AmendContract, Pay}
-use Rattle.office_base.specs.Shelves.{Looks, Meaning}
-use Rattle.office_base.specs.Tables.{Tables}
+use Rattle.office_plans.proofs.Names.{◌≡◌, Result, subst, sym, Command, Import, Register, AmendNotice, Present, Modify, Withdraw, Examine, Award, Sign, AmendContract, Pay, Looks, Meaning, Tables, given_by, Plan, IsPlanned, TellsRefusal, Refusal, Publisher, Asking}
 use Rattle.office_plans.proofs.commands.plan_command.Goals as goal
-use Rattle.office_plans.specs.Asking.{given_by}
-use Rattle.office_plans.specs.Plans.{Plan}
-use Rattle.office_plans.specs.Published.{IsPlanned, TellsRefusal}
-use Rattle.office_values.specs.declared.refusal.Refusal.{Refusal}
-use Rattle.office_values.specs.declared.settings.Publisher.{Publisher}
-use Rattle.tender_core.specs.declared.asking.Asking.{Asking}
 
 -- A plan for a command that publishes nothing holds for any publisher, so it is the plan of the given command.
 planned : {S : Type 0} (M : Meaning S) (publisher : Publisher) (asking : Asking) (a b : S) (given command : Command) (result : Result Plan Refusal) → given ≡ command

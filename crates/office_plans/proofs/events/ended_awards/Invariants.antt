@@ -1,6 +1,4 @@
-use Rattle.std.proofs.Common.{◌≡◌, ◌++◌, map, filter, drop}
-use Rattle.office_base.specs.Tables.{award_key}
-use Rattle.tender_core.specs.Rules.Cancel.{is_ended_award}
+use Rattle.office_plans.proofs.Names.{◌≡◌, ◌++◌, map, filter, drop, award_key, is_ended_award}
 use Rattle.office_plans.proofs.events.ended_awards.Given as goal
 
 abbrev pub invariant-loop-award : goal.invariant-loop-award

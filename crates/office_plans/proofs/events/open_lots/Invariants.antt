@@ -1,6 +1,4 @@
-use Rattle.std.proofs.Common.{◌≡◌, ◌++◌, map, filter, drop}
-use Rattle.office_publications.specs.NoticeEvents.{lot_name}
-use Rattle.tender_core.specs.Rules.Cancel.{is_open_lot}
+use Rattle.office_plans.proofs.Names.{◌≡◌, ◌++◌, map, filter, drop, lot_name, is_open_lot}
 use Rattle.office_plans.proofs.events.open_lots.Given as goal
 
 abbrev pub invariant-loop-lot : goal.invariant-loop-lot

@@ -1,6 +1,4 @@
-use Rattle.std.proofs.Common.{◌++◌, map, ap, ap₂, ◌∙◌}
-use Rattle.json.specs.Print.{print}
-use Rattle.office_plans.specs.Json.{entry_of, json_object, value_tokens, with_objects}
+use Rattle.office_plans.proofs.Names.{◌++◌, map, ap, ap₂, ◌∙◌, print, entry_of, json_object, value_tokens, with_objects}
 use Rattle.office_plans.proofs.Printed.{value_printed}
 use Rattle.office_plans.proofs.objects.rows_text.Goals as goal
 

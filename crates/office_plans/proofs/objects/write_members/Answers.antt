@@ -1,8 +1,4 @@
-use Rattle.std.proofs.Common.{rules, ◌≡◌, [], ◌∷◌, ◌++◌, ◌+◌, map, take, ap, sym, ◌∙◌}
-use Rattle.std.specs.List.{flat_map}
-use Rattle.std.proofs.lemmas.List.{take_more}
-use Rattle.json.specs.Token.{key}
-use Rattle.office_plans.specs.Json.{entry_of, member_tokens, value_tokens}
+use Rattle.office_plans.proofs.Names.{rules, ◌≡◌, [], ◌∷◌, ◌++◌, ◌+◌, map, take, ap, sym, ◌∙◌, flat_map, take_more, key, entry_of, member_tokens, value_tokens}
 use Rattle.office_plans.proofs.Printed.{named_written, one_written}
 use Rattle.office_plans.proofs.objects.write_members.Goals as goal
 

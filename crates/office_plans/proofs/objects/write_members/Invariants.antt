@@ -1,6 +1,4 @@
-use Rattle.std.proofs.Common.{◌≡◌, ◌++◌, map, take}
-use Rattle.std.specs.List.{flat_map}
-use Rattle.office_plans.specs.Json.{entry_of, member_tokens}
+use Rattle.office_plans.proofs.Names.{◌≡◌, ◌++◌, map, take, flat_map, entry_of, member_tokens}
 use Rattle.office_plans.proofs.objects.write_members.Given as goal
 
 abbrev pub invariant-loop-name : goal.invariant-loop-name

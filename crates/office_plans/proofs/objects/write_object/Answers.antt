@@ -1,7 +1,4 @@
-use Rattle.std.proofs.Common.{[], ◌∷◌, ◌++◌, map, ap, sym, ◌∙◌}
-use Rattle.std.specs.List.{flat_map}
-use Rattle.json.specs.Token.{begin_object, end_object}
-use Rattle.office_plans.specs.Json.{entry_of, member_tokens}
+use Rattle.office_plans.proofs.Names.{[], ◌∷◌, ◌++◌, map, ap, sym, ◌∙◌, flat_map, begin_object, end_object, entry_of, member_tokens}
 use Rattle.office_plans.proofs.Printed.{between, object_written}
 use Rattle.office_plans.proofs.objects.write_object.Goals as goal
 

@@ -1,7 +1,4 @@
-use Rattle.std.proofs.Common.{arith, ◌≡◌, [], ◌∷◌, ◌++◌, ◌+◌, take, ap, sym, ◌∙◌}
-use Rattle.std.proofs.lemmas.List.{take_more, take_all}
-use Rattle.json.specs.Token.{begin_array, end_array}
-use Rattle.office_plans.specs.Json.{json_object, value_tokens}
+use Rattle.office_plans.proofs.Names.{arith, ◌≡◌, [], ◌∷◌, ◌++◌, ◌+◌, take, ap, sym, ◌∙◌, take_more, take_all, begin_array, end_array, json_object, value_tokens}
 use Rattle.office_plans.proofs.Printed.{one_row, row_tokens, rows_written}
 use Rattle.office_plans.proofs.objects.write_rows.Goals as goal
 

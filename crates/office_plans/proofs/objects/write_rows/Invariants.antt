@@ -1,5 +1,4 @@
-use Rattle.std.proofs.Common.{◌≡◌, ◌∷◌, [], ◌++◌, take}
-use Rattle.json.specs.Token.{begin_array}
+use Rattle.office_plans.proofs.Names.{◌≡◌, ◌∷◌, [], ◌++◌, take, begin_array}
 use Rattle.office_plans.proofs.Printed.{row_tokens}
 use Rattle.office_plans.proofs.objects.write_rows.Given as goal
 

@@ -1,10 +1,4 @@
-use Rattle.std.proofs.Common.{◌≡◌, List, not, ap, sym, subst, arith}
-use Rattle.std.specs.List.{list_any}
-use Rattle.office_base.specs.Tables.{lot_cmp, lot_key}
-use Rattle.office_base.specs.declared.records.LotRow.{LotRow}
-use Rattle.office_plans.specs.LookedUp.{AreFrom}
-use Rattle.office_machine.specs.Rule.{has_seal_and_lot}
-use Rattle.office_plans.specs.Opening.{HasLotOf, tender_read, with_lot}
+use Rattle.office_plans.proofs.Names.{◌≡◌, List, not, ap, sym, subst, arith, list_any, lot_cmp, lot_key, LotRow, AreFrom, has_seal_and_lot, HasLotOf, tender_read, with_lot}
 use Rattle.office_plans.proofs.LookedUp.{exact_lots, here, from_one, none_from}
 use Rattle.office_plans.proofs.ReadTenders.{next_read, rest_whole}
 use Rattle.office_plans.proofs.opened.load_each.Goals as goal

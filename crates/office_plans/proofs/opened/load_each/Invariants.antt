@@ -1,10 +1,4 @@
-use Rattle.std.proofs.Common.{◌≡◌, ◌++◌, map, not}
-use Rattle.std.specs.List.{list_any}
-use Rattle.office_base.specs.Shelves.{Looks}
-use Rattle.office_base.specs.Tables.{lot_cmp, lot_key}
-use Rattle.office_plans.specs.LookedUp.{AreFrom}
-use Rattle.office_machine.specs.Rule.{has_seal_and_lot}
-use Rattle.office_plans.specs.Opening.{tender_read}
+use Rattle.office_plans.proofs.Names.{◌≡◌, ◌++◌, map, not, list_any, Looks, lot_cmp, lot_key, AreFrom, has_seal_and_lot, tender_read}
 use Rattle.office_plans.proofs.opened.load_each.Given as goal
 
 abbrev pub invariant-loop-envelope : goal.invariant-loop-envelope

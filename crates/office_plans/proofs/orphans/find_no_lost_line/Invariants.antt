@@ -1,7 +1,4 @@
-use Rattle.std.proofs.Common.{◌≡◌, drop}
-use Rattle.std.specs.List.{list_any}
-use Rattle.office_base.specs.Shelves.{Looks}
-use Rattle.office_plans.specs.Named.{is_of_lost_line}
+use Rattle.office_plans.proofs.Names.{◌≡◌, drop, list_any, Looks, is_of_lost_line}
 use Rattle.office_plans.proofs.orphans.find_no_lost_line.Given as goal
 
 abbrev pub invariant-loop-row : goal.invariant-loop-row

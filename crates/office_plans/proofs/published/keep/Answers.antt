@@ -1,15 +1,4 @@
-use Rattle.std.specs.Prelude.{◌≡◌, ℕ, List, Result, Ok, Err, IfOk, OnOk}
-use Rattle.std.proofs.Common.{subst, ◌∙◌}
-use Rattle.serde_json.specs.View.{view}
-use Rattle.ocds_merge.specs.Stored.{IsStorable}
-use Rattle.office_values.specs.declared.refusal.Refusal.{Refusal}
-use Rattle.office_base.specs.Tables.{Tables}
-use Rattle.office_publications.specs.Keeping.{KeepsReleasesOf, ReadsBack, merged_row}
-use Rattle.office_publications.specs.Merges.{HasMerge, IsKeptOf}
-use Rattle.office_publications.specs.declared.merges.Kept.{Kept}
-use Rattle.office_publications.specs.declared.publication.Publication.{Publication}
-use Rattle.office_plans.specs.Released.{IsKept, as_row}
-use Rattle.office_plans.specs.declared.published.Released.{Released}
+use Rattle.office_plans.proofs.Names.{◌≡◌, ℕ, List, Result, Ok, Err, IfOk, OnOk, subst, ◌∙◌, view, IsStorable, Refusal, Tables, KeepsReleasesOf, ReadsBack, merged_row, HasMerge, IsKeptOf, Kept, Publication, IsKept, as_row, Released}
 use Rattle.office_plans.proofs.KeptObjects.{has_merge_on}
 use Rattle.office_plans.proofs.published.keep.Goals as goal
 

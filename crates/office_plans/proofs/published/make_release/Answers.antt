@@ -1,8 +1,4 @@
-use Rattle.std.proofs.Common.{◌≡◌, ◌+◌, ◌∙◌, ap, subst, sym}
-use Rattle.serde_json.specs.View.{view}
-use Rattle.ocds_merge.specs.Stored.{IsStorable}
-use Rattle.office_base.specs.Tables.{notice_at}
-use Rattle.office_machine.specs.Counted.{releases_in}
+use Rattle.office_plans.proofs.Names.{◌≡◌, ◌+◌, ◌∙◌, ap, subst, sym, view, IsStorable, notice_at, releases_in}
 use Rattle.office_plans.proofs.NextRelease.{is_published}
 use Rattle.office_plans.proofs.published.make_release.Goals as goal
 

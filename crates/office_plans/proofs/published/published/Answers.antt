@@ -1,10 +1,4 @@
-use Rattle.std.specs.Prelude.{◌-◌, ◌+◌}
-use Rattle.std.proofs.Common.{sym, subst, ap, ◌∙◌}
-use Rattle.ocds_release.specs.Texts.{ocid_text}
-use Rattle.office_base.specs.Tables.{Tables}
-use Rattle.office_publications.specs.Keeping.{KeepsReleasesOf, has_last_release, has_release}
-use Rattle.office_publications.specs.Merges.{AreSoMany, HasMerge}
-use Rattle.office_plans.specs.Released.{IsKept}
+use Rattle.office_plans.proofs.Names.{◌-◌, ◌+◌, sym, subst, ap, ◌∙◌, ocid_text, Tables, KeepsReleasesOf, has_last_release, has_release, AreSoMany, HasMerge, IsKept}
 use Rattle.office_plans.proofs.ReleaseJoins.{follows, is_planned}
 use Rattle.office_plans.proofs.published.published.Goals as goal
 

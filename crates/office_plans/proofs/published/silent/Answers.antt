@@ -1,4 +1,4 @@
-use Rattle.std.proofs.Common.{[], ◌∙◌, sym}
+use Rattle.office_plans.proofs.Names.{[], ◌∙◌, sym}
 use Rattle.office_plans.proofs.Silent.{all_silent, nothing_published}
 use Rattle.office_plans.proofs.published.silent.Goals as goal
 

@@ -1,6 +1,4 @@
-use Rattle.std.proofs.Common.{◌≡◌, ◌+◌, ◌∷◌, [], List, ℕ, length, drop, true, sym, ap, ◌∙◌, arith}
-use Rattle.std.proofs.lemmas.List.{drop_all, drop_more}
-use Rattle.office_machine.specs.Fates.{numbers}
+use Rattle.office_plans.proofs.Names.{◌≡◌, ◌+◌, ◌∷◌, [], List, ℕ, length, drop, true, sym, ap, ◌∙◌, arith, drop_all, drop_more, numbers}
 use Rattle.office_plans.proofs.OneByOne.{are_from, are_numbers, as_many, first_is, numbers_are}
 use Rattle.office_plans.proofs.release_numbers.are_numbers_to.Goals as goal
 

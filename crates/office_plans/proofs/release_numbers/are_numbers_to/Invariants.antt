@@ -1,4 +1,4 @@
-use Rattle.std.proofs.Common.{◌≡◌, ◌+◌, drop}
+use Rattle.office_plans.proofs.Names.{◌≡◌, ◌+◌, drop}
 use Rattle.office_plans.proofs.OneByOne.{are_from}
 use Rattle.office_plans.proofs.release_numbers.are_numbers_to.Given as goal
 

@@ -1,4 +1,4 @@
-use Rattle.std.proofs.Common.{sym, ◌∙◌}
+use Rattle.office_plans.proofs.Names.{sym, ◌∙◌}
 use Rattle.office_plans.proofs.release_numbers.has_releases_to.Goals as goal
 
 pub returns-clause-all : goal.returns-clause-all

@@ -1,8 +1,4 @@
-use Rattle.std.specs.Prelude.{◌≡◌, ℕ, List, max}
-use Rattle.std.proofs.Common.{◌∙◌, ap}
-use Rattle.office_base.specs.declared.records.ClockRow.{ClockRow}
-use Rattle.office_machine.specs.Replies.{OfNotice}
-use Rattle.office_plans.specs.Replies.{reply_text}
+use Rattle.office_plans.proofs.Names.{◌≡◌, ℕ, List, max, ◌∙◌, ap, ClockRow, OfNotice, reply_text}
 use Rattle.office_plans.proofs.Maybe.{if_ok}
 use Rattle.office_plans.proofs.replies.notice_reply.Goals as goal
 

@@ -1,4 +1,4 @@
-use Rattle.std.proofs.Common.{sym}
+use Rattle.office_plans.proofs.Names.{sym}
 use Rattle.office_plans.proofs.replies.received_text.Goals as goal
 
 pub returns : goal.returns

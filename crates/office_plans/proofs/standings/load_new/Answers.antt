@@ -1,5 +1,4 @@
-use Rattle.std.proofs.Common.{ap}
-use Rattle.office_base.specs.declared.standing.Standing.{Standing}
+use Rattle.office_plans.proofs.Names.{ap, Standing}
 use Rattle.office_plans.proofs.NamedStandings.{fit_put, kept_put, there_put}
 use Rattle.office_plans.proofs.standings.load_new.Goals as goal
 

@@ -1,9 +1,4 @@
-use Rattle.std.proofs.Common.{◌≡◌, ◌+◌, ◌∷◌, List, suc, add-one, drop, map, sym, ap, ◌∙◌, arith}
-use Rattle.std.proofs.Math.Seq.{drop-cons}
-use Rattle.std.proofs.lemmas.Grind.{common_steps}
-use Rattle.office_commands.specs.declared.budget.BudgetRow.{BudgetRow}
-use Rattle.office_base.specs.declared.standing.Standing.{Standing}
-use Rattle.office_plans.specs.Named.{line_of_row, with_standings}
+use Rattle.office_plans.proofs.Names.{◌≡◌, ◌+◌, ◌∷◌, List, suc, add-one, drop, map, sym, ap, ◌∙◌, arith, drop-cons, common_steps, BudgetRow, Standing, line_of_row, with_standings}
 use Rattle.office_plans.proofs.standings.load_standings.Goals as goal
 
 pub loop-row-preserved : goal.loop-row-preserved

@@ -1,11 +1,4 @@
-use Rattle.std.proofs.Common.{◌≡◌, ◌<◌, ℕ, get_or, map, drop}
-use Rattle.std.specs.Prelude.{IsSome}
-use Rattle.office_values.specs.Money.{total_limit}
-use Rattle.office_commands.specs.declared.budget.BudgetRow.{BudgetRow}
-use Rattle.office_base.specs.Shelves.{Looks}
-use Rattle.office_base.specs.Standings.{find_standing}
-use Rattle.tender_core.specs.Walks.{AreAtMost}
-use Rattle.office_plans.specs.Named.{line_of_row, with_standings, standings_named}
+use Rattle.office_plans.proofs.Names.{◌≡◌, ◌<◌, ℕ, get_or, map, drop, IsSome, total_limit, BudgetRow, Looks, find_standing, AreAtMost, line_of_row, with_standings, standings_named}
 use Rattle.office_plans.proofs.standings.load_standings.Given as goal
 
 abbrev pub invariant-loop-row : goal.invariant-loop-row

@@ -1,10 +1,6 @@
-use Rattle.std.specs.Prelude.{List, map}
-use Rattle.std.proofs.Common.{◌∙◌, ap, sym, arith}
-use Rattle.std.proofs.lemmas.List.{at_drop_all}
-use Rattle.office_plans.specs.Tenderers.{tenderer_of, tenderers_named, with_tenderers}
+use Rattle.office_plans.proofs.Names.{List, map, ◌∙◌, ap, sym, arith, at_drop_all, tenderer_of, tenderers_named, with_tenderers, OpenedTender}
 use Rattle.office_plans.proofs.NamedTenderers.{opened_named}
 use Rattle.office_plans.proofs.tenderers.load_tenderers.Goals as goal
-use Rattle.tender_core.specs.declared.opening.OpenedTender.{OpenedTender}
 
 pub returns-clause-looks : goal.returns-clause-looks
 returns-clause-looks g c = (

@@ -1,6 +1,4 @@
-use Rattle.std.proofs.Common.{◌≡◌, map, drop}
-use Rattle.office_base.specs.Shelves.{Looks}
-use Rattle.office_plans.specs.Tenderers.{tenderer_of, tenderers_named, with_tenderers}
+use Rattle.office_plans.proofs.Names.{◌≡◌, map, drop, Looks, tenderer_of, tenderers_named, with_tenderers}
 use Rattle.office_plans.proofs.tenderers.load_tenderers.Given as goal
 
 abbrev pub invariant-loop-tender : goal.invariant-loop-tender

@@ -1,7 +1,4 @@
-use Rattle.std.proofs.Common.{subst}
-use Rattle.std.specs.Prelude.{List, OnOk}
-use Rattle.office_base.specs.declared.records.ReleaseRow.{ReleaseRow}
-use Rattle.office_publications.specs.Merges.{AreWritten}
+use Rattle.office_publications.proofs.Names.{subst, List, OnOk, ReleaseRow, AreWritten}
 use Rattle.office_publications.proofs.merges.compiled_of.Goals as goal
 
 pub returns-in-Releases-clause-goes_on : goal.returns-in-Releases-clause-goes_on

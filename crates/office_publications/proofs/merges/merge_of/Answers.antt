@@ -1,12 +1,4 @@
-use Rattle.std.proofs.Common.{rules, arith, ◌≡◌, ◌+◌, ◌++◌, [], ◌∷◌, take, map, ap, sym, subst, ◌∙◌, Result, Ok, Err, false}
-use Rattle.std.specs.Prelude.{List, OnOk, slice_index_or}
-use Rattle.std.specs.Result.{is_err}
-use Rattle.std.proofs.lemmas.List.{take_more, take_all, map-append}
-use Rattle.std.proofs.lemmas.List.Elements.{All-more}
-use Rattle.ocds_merge.specs.Merge.{merge_or_null}
-use Rattle.ocds_merge.specs.Stored.{IsWrittenRelease}
-use Rattle.office_base.specs.declared.records.ReleaseRow.{ReleaseRow}
-use Rattle.office_publications.specs.Merges.{AreWritten, body_in}
+use Rattle.office_publications.proofs.Names.{rules, arith, ◌≡◌, ◌+◌, ◌++◌, [], ◌∷◌, take, map, ap, sym, subst, ◌∙◌, Result, Ok, Err, false, List, OnOk, slice_index_or, is_err, take_more, take_all, map-append, All-more, merge_or_null, IsWrittenRelease, ReleaseRow, AreWritten, body_in}
 use Rattle.office_publications.proofs.merges.merge_of.Goals as goal
 
 -- a fact about a successful result

@@ -1,7 +1,4 @@
-use Rattle.std.proofs.Common.{◌≡◌, take, map}
-use Rattle.serde_json.specs.View.{view}
-use Rattle.ocds_merge.specs.Merge.{merge_or_null}
-use Rattle.office_publications.specs.Merges.{AreWritten, body_in}
+use Rattle.office_publications.proofs.Names.{◌≡◌, take, map, view, merge_or_null, AreWritten, body_in}
 use Rattle.office_publications.proofs.merges.merge_of.Given as goal
 
 abbrev pub invariant-rows : goal.invariant-rows

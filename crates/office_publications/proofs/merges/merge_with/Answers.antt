@@ -1,5 +1,4 @@
-use Rattle.std.proofs.Common.{subst}
-use Rattle.office_publications.specs.Merges.{AreWritten}
+use Rattle.office_publications.proofs.Names.{subst, AreWritten}
 use Rattle.office_publications.proofs.merges.merge_with.Goals as goal
 use Rattle.office_publications.proofs.merges.merge_with.Goals.{in-Merge+in_ok-text-in-Merge, in-Releases+in_ok-text-in-Releases}
 

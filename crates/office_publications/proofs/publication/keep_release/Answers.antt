@@ -1,10 +1,4 @@
-use Rattle.std.proofs.Common.{◌≡◌, ◌∙◌, Some, unwrap_or, sym, ap}
-use Rattle.serde_json.specs.Data.{null}
-use Rattle.serde_json.specs.Read.{read}
-use Rattle.serde_json.specs.View.{view}
-use Rattle.ocds_merge.specs.Compile.{body_of}
-use Rattle.office_base.specs.declared.records.ReleaseRow.{ReleaseRow}
-use Rattle.office_publications.specs.Merges.{CanBeMerged, body_in}
+use Rattle.office_publications.proofs.Names.{◌≡◌, ◌∙◌, Some, unwrap_or, sym, ap, null, read, view, body_of, ReleaseRow, CanBeMerged, body_in}
 use Rattle.office_publications.proofs.ReadAgain.{is_merge, is_merged_row, reads_back}
 use Rattle.office_publications.proofs.publication.keep_release.Goals as goal
 

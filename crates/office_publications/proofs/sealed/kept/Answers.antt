@@ -1,5 +1,4 @@
-use Rattle.office_publications.specs.Packages.{packages}
-use Rattle.office_publications.specs.Publishing.{publishing}
+use Rattle.office_publications.proofs.Names.{packages, publishing}
 use Rattle.office_publications.proofs.sealed.kept.Goals as goal
 
 pub returns-clause-seals : goal.returns-clause-seals

@@ -1,6 +1,4 @@
-use Rattle.std.proofs.Common.{◌≡◌, ◌+◌, ◌*◌, ◌≤◌, ◌^◌, drop}
-use Rattle.office_base.specs.Joined.{entry_sum}
-use Rattle.office_publications.specs.Worth.{is_contract_cut}
+use Rattle.office_publications.proofs.Names.{◌≡◌, ◌+◌, ◌*◌, ◌≤◌, ◌^◌, drop, entry_sum, is_contract_cut}
 use Rattle.office_publications.proofs.worth.cut.Given as goal
 
 -- the sum so far and the sum of the rest add up to the whole; each entry adds at most the greatest amount

@@ -1,7 +1,4 @@
-use Rattle.std.proofs.Common.{List, ℕ, map, sym, subst}
-use Rattle.sqlite_rules.specs.Lists.{Has}
-use Rattle.office_tables.specs.Schema.{OfficeTable, table_of, all_tables}
-use Rattle.office_tables.proofs.Each.{listed}
+use Rattle.office_store.proofs.Names.{List, ℕ, map, sym, subst, Has, OfficeTable, table_of, all_tables, listed}
 use Rattle.office_store.proofs.FormsFound.{has_mapped, plain, was_mapped}
 use Rattle.office_store.proofs.forms.all_stand.Goals as goal
 

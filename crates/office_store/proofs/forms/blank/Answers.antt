@@ -1,7 +1,4 @@
-use Rattle.std.proofs.Common.{sym, subst}
-use Rattle.sqlite.specs.Effect.{Database}
-use Rattle.sqlite.proofs.Callers.{memory_is_clean}
-use Rattle.office_store.specs.Forms.{HasForm}
+use Rattle.office_store.proofs.Names.{sym, subst, Database, memory_is_clean, HasForm}
 use Rattle.office_store.proofs.forms.blank.Goals as goal
 
 pub returns-then-is_autocommit-clause-forms : goal.returns-then-is_autocommit-clause-forms

@@ -1,9 +1,4 @@
-use Rattle.std.proofs.Common.{rules, ◌≡◌, IsTrue, false, sym, subst, ap, ◌∙◌, true≢false}
-use Rattle.sqlite.specs.Effect.{Database}
-use Rattle.sqlite.specs.Held.{state}
-use Rattle.sqlite_schema.specs.declared.schema.Schema.{Schema}
-use Rattle.office_tables.specs.Schema.{OfficeTable, table_of}
-use Rattle.office_store.specs.Forms.{HasForms, ListsForms, StandsOrLacks}
+use Rattle.office_store.proofs.Names.{rules, ◌≡◌, IsTrue, false, sym, subst, ap, ◌∙◌, true≢false, Database, state, Schema, OfficeTable, table_of, HasForms, ListsForms, StandsOrLacks}
 use Rattle.office_store.proofs.FormsStand.{forms_stand}
 use Rattle.office_store.proofs.FormsFound.{forms_found}
 use Rattle.office_store.proofs.forms.check_forms.Goals as goal

@@ -1,9 +1,4 @@
-use Rattle.std.proofs.Common.{arith, ◌≡◌, ◌∙◌, ◌<◌, ◌+◌, [], ◌∷◌, ◌++◌, inl, inr, List, ℕ, Bor, IsTrue, map, slice_index_or, take, refl, sym, subst, ap, true≢false}
-use Rattle.std.proofs.lemmas.List.{take_all}
-use Rattle.sqlite_schema.specs.declared.schema.Table.{Table}
-use Rattle.sqlite_rules.specs.Lists.{Has}
-use Rattle.office_tables.specs.Known.{IsIn}
-use Rattle.office_store.specs.Forms.{HasPlainRules, StandsOrLacks}
+use Rattle.office_store.proofs.Names.{arith, ◌≡◌, ◌∙◌, ◌<◌, ◌+◌, [], ◌∷◌, ◌++◌, inl, inr, List, ℕ, Bor, IsTrue, map, slice_index_or, take, refl, sym, subst, ap, true≢false, take_all, Table, Has, IsIn, HasPlainRules, StandsOrLacks}
 use Rattle.office_store.proofs.FormsFound.{has_item, last_one}
 use Rattle.office_store.proofs.forms.named_stand.Goals as goal
 

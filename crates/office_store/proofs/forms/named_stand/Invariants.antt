@@ -1,8 +1,4 @@
-use Rattle.std.proofs.Common.{◌≡◌, ℕ, take, map}
-use Rattle.sqlite_rules.specs.Lists.{Has}
-use Rattle.sqlite_schema.specs.declared.schema.Table.{Table}
-use Rattle.office_tables.specs.Known.{IsIn}
-use Rattle.office_store.specs.Forms.{StandsOrLacks}
+use Rattle.office_store.proofs.Names.{◌≡◌, ℕ, take, map, Has, Table, IsIn, StandsOrLacks}
 use Rattle.office_store.proofs.forms.named_stand.Given as goal
 
 abbrev pub invariant-loop-name : goal.invariant-loop-name

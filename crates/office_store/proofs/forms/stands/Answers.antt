@@ -1,14 +1,4 @@
-use Rattle.std.proofs.Common.{rules, arith, ◌≡◌, ◌∙◌, ◌==◌, ℕ, List, ap, sym, Some, length, filter, slice_get}
-use Rattle.std.specs.Prelude.{◌&&◌, Option}
-use Rattle.std.proofs.lemmas.Bool.{eqb-true, eq-eqb}
-use Rattle.std.proofs.lemmas.Grind.{common_steps}
-use Rattle.std.proofs.lemmas.Option.{gets}
-use Rattle.sqlite_schema.specs.declared.schema.Index.{Index}
-use Rattle.sqlite_schema.specs.declared.schema.Schema.{Schema}
-use Rattle.sqlite_schema.specs.declared.schema.Table.{Table}
-use Rattle.sqlite_schema.specs.Names.{table_named}
-use Rattle.office_tables.specs.Known.{at_tree}
-use Rattle.office_store.specs.Forms.{StandsAlike}
+use Rattle.office_store.proofs.Names.{rules, arith, ◌≡◌, ◌∙◌, ◌==◌, ℕ, List, ap, sym, Some, length, filter, slice_get, ◌&&◌, Option, eqb-true, eq-eqb, common_steps, gets, Index, Schema, Table, table_named, at_tree, StandsAlike}
 use Rattle.office_store.proofs.forms.stands.Goals as goal
 
 -- the table that the name finds has the tree of the table with this form

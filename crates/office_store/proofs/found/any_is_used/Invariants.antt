@@ -1,6 +1,4 @@
-use Rattle.std.proofs.Common.{◌≡◌, drop}
-use Rattle.std.specs.List.{list_any}
-use Rattle.sqlite_catalog.specs.Change.{is_used}
+use Rattle.office_store.proofs.Names.{◌≡◌, drop, list_any, is_used}
 use Rattle.office_store.proofs.found.any_is_used.Given as goal
 
 abbrev pub invariant-names : goal.invariant-names

@@ -1,14 +1,4 @@
-use Rattle.std.proofs.Common.{rules, arith, ◌≡◌, refl, sym, subst, inl, inr, [], true, false, IsTrue}
-use Rattle.std.specs.Prelude.{nat_lt}
-use Rattle.sqlite.specs.Held.{state}
-use Rattle.sqlite.specs.declared.error.Error.TheVariants.{SqlInputError}
-use Rattle.sqlite.specs.State.{HasCleanDisk, IsLive}
-use Rattle.sqlite.proofs.StateLemmas.{survives_then}
-use Rattle.office_tables.specs.Editions.{edition_of, has_late}
-use Rattle.office_tables.specs.Steps.{IsRefusal}
-use Rattle.office_tables.specs.Tables.Office.{this_version}
-use Rattle.office_tables.specs.Version.{get_version}
-use Rattle.office_store.specs.Founding.{Enters, version_in, is_other_version, takes_a_name, LeavesOffice}
+use Rattle.office_store.proofs.Names.{rules, arith, ◌≡◌, refl, sym, subst, inl, inr, [], true, false, IsTrue, nat_lt, state, SqlInputError, HasCleanDisk, IsLive, survives_then, edition_of, has_late, IsRefusal, this_version, get_version, Enters, version_in, is_other_version, takes_a_name, LeavesOffice}
 use Rattle.office_store.proofs.Causes.{hindered, refused_so}
 use Rattle.office_store.proofs.Founding.{sound_after, founded_after, leaves_before, refused_on, shown_is_left}
 use Rattle.office_store.proofs.Migrating.{late_committed, leaves_readied_before, readied_after, readied_enters, readied_shows, never_other, shown_version}

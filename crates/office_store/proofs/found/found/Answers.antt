@@ -1,11 +1,4 @@
-use Rattle.std.proofs.Common.{rules, arith, ◌≡◌, OnOk, subst, IsTrue}
-use Rattle.sqlite.specs.Held.{state}
-use Rattle.sqlite.specs.State.{HasCleanDisk, Survives}
-use Rattle.sqlite.proofs.StateLemmas.{survives_then}
-use Rattle.sqlite.proofs.Callers.{survives_begin}
-use Rattle.office_tables.specs.Steps.{Refused}
-use Rattle.office_store.specs.Founding.{Founded, LeavesNew}
-use Rattle.office_changes.proofs.Steps.{rolled, on_err, on_ok_with, begun_refused}
+use Rattle.office_store.proofs.Names.{rules, arith, ◌≡◌, OnOk, subst, IsTrue, state, HasCleanDisk, Survives, survives_then, survives_begin, Refused, Founded, LeavesNew, rolled, on_err, on_ok_with, begun_refused}
 use Rattle.office_store.proofs.Founding.{founds, found_leaves}
 use Rattle.office_store.proofs.found.found.Goals as goal
 

@@ -1,7 +1,4 @@
-use Rattle.std.proofs.Common.{◌≡◌, [], ◌∷◌, List, Bool, Bor, ℕ, ◌||◌, map, refl, sym, ap, ◌∙◌}
-use Rattle.std.specs.List.{list_any}
-use Rattle.sqlite_catalog.specs.Change.{is_used}
-use Rattle.office_tables.specs.Schema.{OfficeTable, table_of, all_tables}
+use Rattle.office_store.proofs.Names.{◌≡◌, [], ◌∷◌, List, Bool, Bor, ℕ, ◌||◌, map, refl, sym, ap, ◌∙◌, list_any, is_used, OfficeTable, table_of, all_tables}
 use Rattle.office_store.proofs.found.takes_a_name.Goals as goal
 
 any_mapped : {X Y : Type 0} (p : Y → Bool) (f : X → Y) (xs : List X) → list_any (λ x. p (f x)) xs ≡ list_any p (map f xs)

@@ -1,5 +1,4 @@
-use Rattle.std.proofs.Common.{sym, subst}
-use Rattle.sqlite.specs.Given.{Advances}
+use Rattle.office_store.proofs.Names.{sym, subst, Advances}
 use Rattle.office_store.proofs.Taking.{takes, all_taken}
 use Rattle.office_store.proofs.joined_rows.take_row.Goals as goal
 

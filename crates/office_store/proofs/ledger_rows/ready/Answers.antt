@@ -1,5 +1,4 @@
-use Rattle.std.proofs.Common.{[]}
-use Rattle.sqlite.specs.Held.{state}
+use Rattle.office_store.proofs.Names.{[], state}
 use Rattle.office_store.proofs.Kept.{unchanged, not_run_kept}
 use Rattle.office_store.proofs.ledger_rows.ready.Goals as goal
 

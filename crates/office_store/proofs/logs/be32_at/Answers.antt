@@ -1,5 +1,4 @@
-use Rattle.std.proofs.Common.{refl}
-use Rattle.sqlite_wal.specs.Format.{be32}
+use Rattle.office_store.proofs.Names.{refl, be32}
 use Rattle.office_store.proofs.logs.be32_at.Goals as goal
 
 pub returns : goal.returns

@@ -1,6 +1,5 @@
-use Rattle.std.proofs.Common.{rules, arith, ◌≡◌, ◌∙◌, ℕ, inl, inr, List, false, sym, subst}
+use Rattle.office_store.proofs.Names.{rules, arith, ◌≡◌, ◌∙◌, ℕ, inl, inr, List, false, sym, subst, LacksCommit, is_unused}
 use Rattle.sqlite_wal.specs.Reads.{IsClean}
-use Rattle.office_store.specs.Logs.{LacksCommit, is_unused}
 use Rattle.office_store.proofs.LogCauses.{log_clean, more_later}
 use Rattle.office_store.proofs.logs.check_log.Goals as goal
 

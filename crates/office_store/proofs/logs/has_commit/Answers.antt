@@ -1,11 +1,4 @@
-use Rattle.std.proofs.Common.{rules, arith, ◌≡◌, ◌∙◌, ℕ, ◌+◌, inl, inr, List, [], length, ap, sym, subst}
-use Rattle.std.proofs.lemmas.Grind.{common_steps}
-use Rattle.sqlite_disk.specs.Disk.{MoreFaults}
-use Rattle.sqlite_wal.specs.Opening.{RefusesLog}
-use Rattle.sqlite_wal.specs.PageSize.{bytes_of}
-use Rattle.sqlite_wal.specs.Reads.{AreClean}
-use Rattle.sqlite_wal.specs.Recovery.{AreFramesOf}
-use Rattle.sqlite_wal.proofs.CleanLemmas.{both_clean}
+use Rattle.office_store.proofs.Names.{rules, arith, ◌≡◌, ◌∙◌, ℕ, ◌+◌, inl, inr, List, [], length, ap, sym, subst, common_steps, MoreFaults, RefusesLog, bytes_of, AreClean, AreFramesOf, both_clean}
 use Rattle.office_store.proofs.LogCauses.{log_clean, more_beside, names_none, names_some, none_left, refused_log}
 use Rattle.office_store.proofs.logs.has_commit.Goals as goal
 

@@ -1,8 +1,4 @@
-use Rattle.std.proofs.Common.{rules, arith, ◌≡◌, false, length, take, sym, ap, ap₂, ◌∙◌}
-use Rattle.std.specs.Prelude.{◌||◌, nat_lt}
-use Rattle.sqlite_wal.proofs.FormatLemmas.{part_front}
-use Rattle.sqlite_wal.proofs.PartLemmas.{held_is_part}
-use Rattle.office_store.specs.Logs.{has_shut_gate}
+use Rattle.office_store.proofs.Names.{rules, arith, ◌≡◌, false, length, take, sym, ap, ap₂, ◌∙◌, ◌||◌, nat_lt, part_front, held_is_part, has_shut_gate}
 use Rattle.office_store.proofs.logs.is_unused.Goals as goal
 
 pub returns-clause-unused : goal.returns-clause-unused

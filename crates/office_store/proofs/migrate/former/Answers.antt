@@ -1,7 +1,4 @@
-use Rattle.std.proofs.Common.{arith}
-use Rattle.sqlite.specs.Held.{state}
-use Rattle.sqlite.specs.State.{HasCleanDisk}
-use Rattle.sqlite.proofs.StateLemmas.{survives_then}
+use Rattle.office_store.proofs.Names.{arith, state, HasCleanDisk, survives_then}
 use Rattle.office_store.proofs.Founding.{refused_on}
 use Rattle.office_store.proofs.Migrating.{earlier_on}
 use Rattle.office_store.proofs.migrate.former.Goals as goal

@@ -1,11 +1,5 @@
-use Rattle.std.proofs.Common.{rules, arith, ◌≡◌, map, IsTrue, false}
-use Rattle.sqlite.specs.Held.{state}
-use Rattle.sqlite.specs.State.{HasCleanDisk}
-use Rattle.sqlite.proofs.StateLemmas.{survives_then}
-use Rattle.office_tables.specs.declared.tables.notices.FormerNotice.{FormerNotice}
-use Rattle.office_store.specs.Founding.{LeavesMigrated}
+use Rattle.office_store.proofs.Names.{rules, arith, ◌≡◌, map, IsTrue, false, state, HasCleanDisk, survives_then, FormerNotice, LeavesMigrated, leads_there}
 use Rattle.office_store.proofs.Founding.{refused_on}
-use Rattle.office_store.specs.Others.{leads_there}
 use Rattle.office_store.proofs.Migrating.{from_told, told_leaves, apart_committed}
 use Rattle.office_store.proofs.migrate.migrated.Goals as goal
 

@@ -1,10 +1,4 @@
-use Rattle.std.proofs.Common.{◌≡◌, true, false, sym, subst}
-use Rattle.std.specs.Prelude.{nat_lt}
-use Rattle.std.proofs.lemmas.Bool.{lt-ltb, le-ltb}
-use Rattle.sqlite.specs.Held.{state}
-use Rattle.sqlite.proofs.StateLemmas.{survives_weaker}
-use Rattle.office_tables.specs.Tables.Office.{this_version}
-use Rattle.office_store.specs.Founding.{LeavesReadied, IsMadeCurrent}
+use Rattle.office_store.proofs.Names.{◌≡◌, true, false, sym, subst, nat_lt, lt-ltb, le-ltb, state, survives_weaker, this_version, LeavesReadied, IsMadeCurrent}
 use Rattle.office_store.proofs.migrate.ready.Goals as goal
 
 pub returns-in-Ok-clause-readied : goal.returns-in-Ok-clause-readied

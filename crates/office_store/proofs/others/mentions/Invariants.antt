@@ -1,5 +1,4 @@
-use Rattle.std.proofs.Common.{◌≡◌, length}
-use Rattle.office_store.specs.Others.{mentions, mentions_from}
+use Rattle.office_store.proofs.Names.{◌≡◌, length, mentions, mentions_from}
 use Rattle.office_store.proofs.others.mentions.Given as goal
 
 abbrev pub invariant-loop-rest : goal.invariant-loop-rest

@@ -1,13 +1,4 @@
-use Rattle.std.proofs.Common.{rules, arith, ◌≡◌, ◌∙◌, ◌-◌, ◌+◌, ℕ, zero, suc, List, Some, slice_get, IsTrue, ap, sym, subst, true≢false}
-use Rattle.std.proofs.lemmas.Grind.{common_steps}
-use Rattle.std.proofs.lemmas.Option.{gets, get_or_from_slice_get}
-use Rattle.sqlite_value.specs.declared.value.Value.TheVariants.{Null}
-use Rattle.sqlite_sql.specs.declared.ops.BinaryOp.{BinaryOp}
-use Rattle.sqlite_sql.specs.declared.ops.UnaryOp.{UnaryOp}
-use Rattle.sqlite_sql.specs.Term.{Term, op1, op2}
-use Rattle.sqlite_schema.specs.declared.code.Op.{Op}
-use Rattle.sqlite_schema.specs.declared.code.Op.TheVariants.{Literal, Unary, Binary}
-use Rattle.sqlite_schema.specs.Code.{op_term, term_to}
+use Rattle.office_store.proofs.Names.{rules, arith, ◌≡◌, ◌∙◌, ◌-◌, ◌+◌, ℕ, zero, suc, List, Some, slice_get, IsTrue, ap, sym, subst, true≢false, common_steps, gets, get_or_from_slice_get, Null, BinaryOp, UnaryOp, Term, op1, op2, Op, Literal, Unary, Binary, op_term, term_to}
 use Rattle.office_store.proofs.same.+same_term.Goals.{then-same_binary, else-same_binary}
 use Rattle.office_store.proofs.same.+same_term.Goals as goal
 

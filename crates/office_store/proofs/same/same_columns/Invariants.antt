@@ -1,4 +1,4 @@
-use Rattle.std.proofs.Common.{◌≡◌, take}
+use Rattle.office_store.proofs.Names.{◌≡◌, take}
 use Rattle.office_store.proofs.same.same_columns.Given as goal
 
 abbrev pub invariant-loop-at : goal.invariant-loop-at

@@ -1,7 +1,4 @@
-use Rattle.std.proofs.Common.{rules, arith, ◌≡◌, ◌∙◌, ◌<◌, ℕ, length, map, IsTrue, ap, sym, true≢false}
-use Rattle.std.specs.Prelude.{List, get_or}
-use Rattle.std.proofs.lemmas.List.{get_or-map}
-use Rattle.sqlite_schema.specs.Code.{term_in}
+use Rattle.office_store.proofs.Names.{rules, arith, ◌≡◌, ◌∙◌, ◌<◌, ℕ, length, map, IsTrue, ap, sym, true≢false, List, get_or, get_or-map, term_in}
 use Rattle.office_store.proofs.same.same_roots.Goals as goal
 
 mapped_at : {Z : Type 0} (f g : ℕ → Z) (xs ys : List ℕ) (at : ℕ) → at < length xs → at < length ys → map f xs ≡ map g ys → f (get_or xs at 0) ≡ g (get_or ys at 0)

@@ -1,5 +1,4 @@
-use Rattle.std.proofs.Common.{◌≡◌, length, take}
-use Rattle.sqlite_schema.specs.Code.{terms_in}
+use Rattle.office_store.proofs.Names.{◌≡◌, length, take, terms_in}
 use Rattle.office_store.proofs.same.same_roots.Given as goal
 
 abbrev pub invariant-loop-at : goal.invariant-loop-at

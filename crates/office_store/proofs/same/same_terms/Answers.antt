@@ -1,5 +1,4 @@
-use Rattle.std.proofs.Common.{◌≡◌, sym, ap₂, ◌∙◌}
-use Rattle.sqlite_schema.specs.Code.{terms_in}
+use Rattle.office_store.proofs.Names.{◌≡◌, sym, ap₂, ◌∙◌, terms_in}
 use Rattle.office_store.proofs.same.same_terms.Goals as goal
 
 pub returns : goal.returns

@@ -1,8 +1,5 @@
-use Rattle.std.proofs.Common.{[], sym, subst}
-use Rattle.sqlite.specs.Held.{state}
-use Rattle.office_tables.specs.Version.{get_version}
+use Rattle.office_store.proofs.Names.{[], sym, subst, state, get_version, IsTold}
 use Rattle.office_store.proofs.Kept.{unchanged, not_run_kept}
-use Rattle.office_store.specs.Shutting.{IsTold}
 use Rattle.office_store.proofs.Shutting.{told_open, told_refusal}
 use Rattle.office_store.proofs.shut.ask.Goals as goal
 

@@ -1,8 +1,4 @@
-use Rattle.std.proofs.Common.{◌≡◌, ◌∙◌, [], ◌∷◌, ◌++◌, subst}
-use Rattle.sqlite.specs.Held.{state}
-use Rattle.sqlite.specs.State.{HasCleanDisk}
-use Rattle.office_base.specs.Joined.{ledger_of, LinesFit}
-use Rattle.office_ledger.specs.Joins.{joined}
+use Rattle.office_store.proofs.Names.{◌≡◌, ◌∙◌, [], ◌∷◌, ◌++◌, subst, state, HasCleanDisk, ledger_of, LinesFit, joined}
 use Rattle.office_ledger.specs.Taking.{HasTaken as HasAdded}
 use Rattle.office_store.proofs.Adding.{keeps_then, sums_right}
 use Rattle.office_store.proofs.sums.add_up.Goals as goal

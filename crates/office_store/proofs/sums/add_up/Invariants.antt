@@ -1,10 +1,5 @@
-use Rattle.std.proofs.Common.{◌≡◌, List, []}
-use Rattle.sqlite.specs.Held.{state}
-use Rattle.sqlite.specs.State.{HasCleanDisk}
-use Rattle.office_base.specs.Tables.{Tables}
+use Rattle.office_store.proofs.Names.{◌≡◌, List, [], state, HasCleanDisk, Tables, JoinedRow, HasTaken, KeepsOffice}
 use Rattle.office_ledger.specs.Taking.{HasTaken as HasAdded}
-use Rattle.office_ledger.specs.declared.joined.JoinedRow.{JoinedRow}
-use Rattle.office_store.specs.LedgerRows.{HasTaken, KeepsOffice}
 use Rattle.office_store.proofs.sums.add_up.Given as goal
 
 -- the rows that were taken are those that were added up

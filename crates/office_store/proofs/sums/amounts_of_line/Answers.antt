@@ -1,7 +1,4 @@
-use Rattle.std.proofs.Common.{[], ◌∷◌}
-use Rattle.sqlite_value.specs.declared.value.Value.TheVariants.{Text}
-use Rattle.office_tables.specs.Steps.{IsAsked}
-use Rattle.office_ledger.specs.SelectLots.{list_joined_of_line}
+use Rattle.office_store.proofs.Names.{[], ◌∷◌, Text, IsAsked, list_joined_of_line}
 use Rattle.office_store.proofs.Joined.{asked_lots}
 use Rattle.office_store.proofs.sums.amounts_of_line.Goals as goal
 

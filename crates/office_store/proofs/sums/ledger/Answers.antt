@@ -1,7 +1,4 @@
-use Rattle.std.proofs.Common.{◌≡◌, ◌∙◌, rules, sym, subst}
-use Rattle.sqlite.specs.Held.{state}
-use Rattle.sqlite.specs.State.{HasCleanDisk}
-use Rattle.office_store.specs.LedgerRows.{KeepsOffice}
+use Rattle.office_store.proofs.Names.{◌≡◌, ◌∙◌, rules, sym, subst, state, HasCleanDisk, KeepsOffice}
 use Rattle.office_store.proofs.Adding.{keeps_then}
 use Rattle.office_store.proofs.Readying.{begun_keeps, begun_takes, refused_keeps}
 use Rattle.office_store.proofs.sums.ledger.Goals as goal

@@ -1,5 +1,4 @@
-use Rattle.std.proofs.Common.{ap, ◌∙◌}
-use Rattle.office_base.specs.declared.ledger.LineAmounts.{LineAmounts}
+use Rattle.office_sums.proofs.Names.{ap, ◌∙◌, LineAmounts}
 use Rattle.office_sums.proofs.Known.{summed}
 use Rattle.office_sums.proofs.asking.added_up.Goals as goal
 

@@ -1,4 +1,4 @@
-use Rattle.std.proofs.Common.{◌∙◌}
+use Rattle.office_sums.proofs.Names.{◌∙◌}
 use Rattle.office_sums.proofs.LedgerTold.{ledger_told}
 use Rattle.office_sums.proofs.asking.ledger_at_once.Goals as goal
 

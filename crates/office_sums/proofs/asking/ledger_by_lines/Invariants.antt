@@ -1,9 +1,6 @@
-use Rattle.std.specs.Prelude.{◌≡◌, drop}
-use Rattle.office_base.specs.Shelves.{Keeps}
-use Rattle.office_base.specs.Tables.{Tables}
+use Rattle.office_sums.proofs.Names.{◌≡◌, drop, Keeps, Tables, Remembers}
 use Rattle.office_sums.proofs.LedgerSoFar.{IsLedgerSoFar}
 use Rattle.office_sums.proofs.asking.ledger_by_lines.Given as goal
-use Rattle.office_sums.specs.Remembered.{Remembers}
 
 -- the rows so far and those of the rest of the lines are the ledger
 abbrev pub invariant-loop-line : goal.invariant-loop-line

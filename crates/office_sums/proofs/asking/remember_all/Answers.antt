@@ -1,8 +1,5 @@
-use Rattle.std.proofs.Common.{sym, subst}
-use Rattle.std.proofs.lemmas.List.{drop_more}
-use Rattle.office_base.specs.declared.ledger.LedgerRow.{LedgerRow}
+use Rattle.office_sums.proofs.Names.{sym, subst, drop_more, LedgerRow, sums_in, AreSums, AreBalances, Remembers}
 use Rattle.office_sums.proofs.asking.remember_all.Goals as goal
-use Rattle.office_sums.specs.Remembered.{sums_in, AreSums, AreBalances, Remembers}
 
 pub loop-row-init : goal.loop-row-init
 loop-row-init c t told = (told, subst (λ known. Remembers known t) (sym c.forget_all.ensures) (c.nothing_remembered.ensures t))

@@ -1,7 +1,5 @@
-use Rattle.std.specs.Prelude.{drop}
-use Rattle.office_base.specs.Tables.{Tables}
+use Rattle.office_sums.proofs.Names.{drop, Tables, AreBalances, Remembers}
 use Rattle.office_sums.proofs.asking.remember_all.Given as goal
-use Rattle.office_sums.specs.Remembered.{AreBalances, Remembers}
 
 -- the rest of the rows have the sums of their lines, and the sums that are remembered so far agree
 abbrev pub invariant-loop-row : goal.invariant-loop-row

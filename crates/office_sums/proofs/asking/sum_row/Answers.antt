@@ -1,4 +1,4 @@
-use Rattle.std.proofs.Common.{sym, ◌∙◌}
+use Rattle.office_sums.proofs.Names.{sym, ◌∙◌}
 use Rattle.office_sums.proofs.Known.{pots_are}
 use Rattle.office_sums.proofs.asking.sum_row.Goals as goal
 

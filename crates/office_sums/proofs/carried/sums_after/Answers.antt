@@ -1,8 +1,4 @@
-use Rattle.std.proofs.Common.{◌≡◌, ◌+◌, ◌∷◌, List, drop, sym, ap, ◌∙◌, arith}
-use Rattle.std.proofs.lemmas.List.{at_drop_all, drop_more}
-use Rattle.office_base.specs.EntrySums.{sums_with_entries}
-use Rattle.office_base.specs.declared.ledger.ContractSums.{ContractSums}
-use Rattle.office_base.specs.declared.records.EntryRow.{EntryRow}
+use Rattle.office_sums.proofs.Names.{◌≡◌, ◌+◌, ◌∷◌, List, drop, sym, ap, ◌∙◌, arith, at_drop_all, drop_more, sums_with_entries, ContractSums, EntryRow}
 use Rattle.office_sums.proofs.carried.sums_after.Goals as goal
 
 pub loop-entry-preserved : goal.loop-entry-preserved

@@ -1,5 +1,4 @@
-use Rattle.std.proofs.Common.{◌≡◌, drop}
-use Rattle.office_base.specs.EntrySums.{sums_with_entries}
+use Rattle.office_sums.proofs.Names.{◌≡◌, drop, sums_with_entries}
 use Rattle.office_sums.proofs.carried.sums_after.Given as goal
 
 -- adding the remaining entries gives the sums after all of them

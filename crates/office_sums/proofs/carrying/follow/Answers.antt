@@ -1,8 +1,6 @@
-use Rattle.std.proofs.Common.{sym, subst, ◌∙◌}
-use Rattle.office_base.proofs.Looked.{keeps_then}
+use Rattle.office_sums.proofs.Names.{sym, subst, ◌∙◌, keeps_then, Remembers}
 use Rattle.office_sums.proofs.LastLots.{after_more}
 use Rattle.office_sums.proofs.carrying.follow.Goals as goal
-use Rattle.office_sums.specs.Remembered.{Remembers}
 
 pub loop-at-preserved : goal.loop-at-preserved
 loop-at-preserved g c =

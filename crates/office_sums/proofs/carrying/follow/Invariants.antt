@@ -1,6 +1,4 @@
-use Rattle.std.specs.Prelude.{◌≡◌, take}
-use Rattle.office_base.specs.Shelves.{Looks}
-use Rattle.office_sums.specs.Carried.{Follows, KnowsEntries}
+use Rattle.office_sums.proofs.Names.{◌≡◌, take, Looks, Follows, KnowsEntries}
 use Rattle.office_sums.proofs.carrying.follow.Given as goal
 
 -- the sums are right after the changes that were passed

@@ -1,5 +1,4 @@
-use Rattle.office_base.proofs.SortedTables.{sorted-puts}
-use Rattle.office_base.specs.Tables.{after_puts}
+use Rattle.office_sums.proofs.Names.{sorted-puts, after_puts}
 use Rattle.office_sums.proofs.carrying.follow_one.Goals as goal
 
 pub returns : goal.returns

@@ -1,10 +1,7 @@
-use Rattle.std.specs.Prelude.{◌≡◌, ℕ, List, None, Some, option_map}
-use Rattle.std.proofs.Common.{refl, sym, ap, ◌∙◌, Bor}
-use Rattle.office_base.specs.declared.records.LotRow.{LotRow}
+use Rattle.office_sums.proofs.Names.{◌≡◌, ℕ, List, None, Some, option_map, refl, sym, ap, ◌∙◌, Bor, LotRow, last_lot, reservation_of}
 use Rattle.office_sums.proofs.AfterLooks.{keeps_same}
 use Rattle.office_sums.proofs.LastLots.{last_found, none_put}
 use Rattle.office_sums.proofs.carrying.get_reservation.Goals as goal
-use Rattle.office_sums.specs.Carried.{last_lot, reservation_of}
 
 pub returns-in-Some : goal.returns-in-Some
 returns-in-Some g c =

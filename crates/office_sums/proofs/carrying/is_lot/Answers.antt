@@ -1,6 +1,4 @@
-use Rattle.std.specs.Prelude.{◌&&◌}
-use Rattle.std.proofs.Common.{sym, ap, ◌∙◌}
-use Rattle.office_values.specs.Ids.{same_id}
+use Rattle.office_sums.proofs.Names.{◌&&◌, sym, ap, ◌∙◌, same_id}
 use Rattle.office_sums.proofs.LastLots.{lot_tie}
 use Rattle.office_sums.proofs.carrying.is_lot.Goals as goal
 

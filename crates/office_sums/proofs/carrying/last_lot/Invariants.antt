@@ -1,6 +1,5 @@
-use Rattle.std.proofs.Common.{◌≡◌, option_map, drop}
+use Rattle.office_sums.proofs.Names.{◌≡◌, option_map, drop, either_row, last_lot}
 use Rattle.office_sums.proofs.carrying.last_lot.Given as goal
-use Rattle.office_sums.specs.Carried.{either_row, last_lot}
 
 -- the last of the remaining lots, or else the one that was found
 abbrev pub invariant-loop-put : goal.invariant-loop-put

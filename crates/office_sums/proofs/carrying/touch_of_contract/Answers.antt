@@ -1,11 +1,6 @@
-use Rattle.std.specs.Prelude.{◌≡◌, true}
-use Rattle.std.proofs.Common.{sym, ap, ◌∙◌}
-use Rattle.std.specs.List.{list_all}
-use Rattle.office_base.proofs.Looked.{keeps_then}
-use Rattle.office_base.specs.Tables.{after_puts, contract_at}
+use Rattle.office_sums.proofs.Names.{◌≡◌, true, sym, ap, ◌∙◌, list_all, keeps_then, after_puts, contract_at, keeps_lot, leaves_contracts}
 use Rattle.office_sums.proofs.CarriedOver.{contract_after, contract_put, contract_put_apart, new_row_after}
 use Rattle.office_sums.proofs.carrying.touch_of_contract.Goals as goal
-use Rattle.office_sums.specs.Carried.{keeps_lot, leaves_contracts}
 
 pub returns-in_ok-sums-in-Some : goal.returns-in_ok-sums-in-Some
 returns-in_ok-sums-in-Some g c =

@@ -1,11 +1,6 @@
-use Rattle.std.specs.Prelude.{◌≡◌, true, None, Some}
-use Rattle.std.proofs.Common.{sym, ap, ◌∙◌}
-use Rattle.std.specs.List.{list_all}
-use Rattle.office_base.proofs.Looked.{keeps_then}
-use Rattle.office_base.specs.Tables.{after_puts, contract_at}
+use Rattle.office_sums.proofs.Names.{◌≡◌, true, None, Some, sym, ap, ◌∙◌, list_all, keeps_then, after_puts, contract_at, leaves_contracts}
 use Rattle.office_sums.proofs.CarriedOver.{contract_after, entry_put, entry_put_alone, entry_put_apart, new_entry_after}
 use Rattle.office_sums.proofs.carrying.touch_of_entry.Goals as goal
-use Rattle.office_sums.specs.Carried.{leaves_contracts}
 
 pub returns-in_default : goal.returns-in_default
 returns-in_default g c =

@@ -1,6 +1,4 @@
-use Rattle.std.proofs.Common.{refl, sym, ◌∙◌}
-use Rattle.office_base.proofs.Looked.{keeps_then}
-use Rattle.office_base.specs.Tables.{after_puts, lot_at, lot_key}
+use Rattle.office_sums.proofs.Names.{refl, sym, ◌∙◌, keeps_then, after_puts, lot_at, lot_key}
 use Rattle.office_sums.proofs.CarriedOver.{lot_comes, lot_stays, not_other}
 use Rattle.office_sums.proofs.carrying.touch_of_lot.Goals as goal
 

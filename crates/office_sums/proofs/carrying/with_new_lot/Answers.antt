@@ -1,5 +1,4 @@
-use Rattle.std.specs.Prelude.{◌≡◌, IfSome}
-use Rattle.std.proofs.Common.{sym, subst, ◌∙◌}
+use Rattle.office_sums.proofs.Names.{◌≡◌, IfSome, sym, subst, ◌∙◌}
 use Rattle.office_sums.proofs.CarriedOver.{from_new_lot}
 use Rattle.office_sums.proofs.carrying.with_new_lot.Goals as goal
 

@@ -1,5 +1,4 @@
-use Rattle.std.proofs.Common.{◌≡◌, take}
-use Rattle.office_sums.specs.Numbered.{numbers_to}
+use Rattle.office_sums.proofs.Names.{◌≡◌, take, numbers_to}
 use Rattle.office_sums.proofs.numbered.are_numbered.Given as goal
 
 -- the numbers that were passed are those from 1 on

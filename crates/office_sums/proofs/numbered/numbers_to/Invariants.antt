@@ -1,5 +1,4 @@
-use Rattle.std.proofs.Common.{◌≡◌}
-use Rattle.office_sums.specs.Numbered.{numbers_to}
+use Rattle.office_sums.proofs.Names.{◌≡◌, numbers_to}
 use Rattle.office_sums.proofs.numbered.numbers_to.Given as goal
 
 -- the numbers so far

@@ -1,9 +1,4 @@
-use Rattle.std.proofs.Common.{rules, arith, ◌≡◌, IsTrue, subst}
-use Rattle.std.specs.Prelude.{IfErr}
-use Rattle.sqlite.specs.Held.{state}
-use Rattle.sqlite.specs.State.{HasCleanDisk}
-use Rattle.sqlite.specs.Values.{bound}
-use Rattle.office_tables.specs.Steps.{IsRefusedBy}
+use Rattle.office_tables.proofs.Names.{rules, arith, ◌≡◌, IsTrue, subst, IfErr, state, HasCleanDisk, bound, IsRefusedBy}
 use Rattle.office_tables.proofs.Asked.{asks, refusals, refused_by}
 use Rattle.office_tables.proofs.ask.ask.Goals as goal
 

@@ -1,8 +1,4 @@
-use Rattle.std.proofs.Common.{◌≡◌, inl}
-use Rattle.std.specs.Prelude.{map}
-use Rattle.std.specs.List.{AllByRecursion}
-use Rattle.sqlite.specs.Values.{bound}
-use Rattle.office_tables.specs.Unwritten.{IsUnwritten}
+use Rattle.office_tables.proofs.Names.{◌≡◌, inl, map, AllByRecursion, bound, IsUnwritten}
 use Rattle.office_tables.proofs.Asked.{from_rows, rows_unread, tells_all}
 use Rattle.office_tables.proofs.ask.ask_all.Goals as goal
 

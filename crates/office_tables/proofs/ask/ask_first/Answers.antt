@@ -1,7 +1,4 @@
-use Rattle.std.proofs.Common.{◌≡◌, inl}
-use Rattle.std.specs.Prelude.{IfSome, option_map, slice_get}
-use Rattle.sqlite.specs.Values.{bound}
-use Rattle.office_tables.specs.Unwritten.{IsUnwritten}
+use Rattle.office_tables.proofs.Names.{◌≡◌, inl, IfSome, option_map, slice_get, bound, IsUnwritten}
 use Rattle.office_tables.proofs.Asked.{from_rows, rows_unread, tells_one}
 use Rattle.office_tables.proofs.ask.ask_first.Goals as goal
 

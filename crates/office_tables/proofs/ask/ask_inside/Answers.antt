@@ -1,4 +1,4 @@
-use Rattle.sqlite.specs.Held.{state}
+use Rattle.office_tables.proofs.Names.{state}
 use Rattle.office_tables.proofs.Reading.{shown_kept, result_kept, if_ok_on}
 use Rattle.office_tables.proofs.ask.ask_inside.Goals as goal
 

@@ -1,8 +1,5 @@
-use Rattle.std.proofs.Common.{arith, map}
-use Rattle.sqlite.specs.Held.{state}
-use Rattle.sqlite.specs.State.{HasCleanDisk}
-use Rattle.office_tables.specs.Editions.{later_line, later_tables}
-use Rattle.office_tables.specs.Statements.{creates, renewal}
+use Rattle.office_tables.proofs.Names.{arith, map, state, HasCleanDisk, later_line, later_tables, renewal}
+use Rattle.office_tables.specs.Statements.{creates}
 use Rattle.office_tables.proofs.EarlierEditions.{begins}
 use Rattle.office_tables.proofs.Failing.{if_err_with, same_err}
 use Rattle.office_tables.proofs.MakingSteps.{goes_refused}

@@ -1,7 +1,5 @@
-use Rattle.std.proofs.Common.{rules, ◌≡◌, [], ◌∷◌, cond, true, false, refl, sym, subst}
-use Rattle.std.specs.Prelude.{IfErr, OnOk}
-use Rattle.office_tables.specs.Earlier.{DropsFormer, drop_notices, had_former}
-use Rattle.office_tables.specs.Statements.{OneFails, Statement}
+use Rattle.office_tables.proofs.Names.{rules, ◌≡◌, [], ◌∷◌, cond, true, false, refl, sym, subst, IfErr, OnOk, DropsFormer, drop_notices, had_former, OneFails}
+use Rattle.office_tables.specs.Statements.{Statement}
 use Rattle.office_tables.proofs.Failing.{if_err_with}
 use Rattle.office_tables.proofs.Statements.{fails_one}
 use Rattle.office_tables.proofs.earlier.drop_notices.Goals as goal

@@ -1,10 +1,4 @@
-use Rattle.std.proofs.Common.{true, ◌∙◌, sym, ap, subst}
-use Rattle.std.specs.Prelude.{option_map, slice_get}
-use Rattle.sqlite.specs.Held.{state}
-use Rattle.office_tables.specs.Editions.{version_of}
-use Rattle.office_tables.specs.Tables.Office.{clock_read}
-use Rattle.office_tables.specs.Version.{HasVersion}
-use Rattle.office_tables.specs.declared.tables.office.FormerClock.{FormerClock}
+use Rattle.office_tables.proofs.Names.{true, ◌∙◌, sym, ap, subst, option_map, slice_get, state, version_of, clock_read, HasVersion, FormerClock}
 use Rattle.office_tables.proofs.EarlierEditions.{edition_version, clock_found}
 use Rattle.office_tables.proofs.ByTable.Office.{select_clock}
 use Rattle.office_tables.proofs.Asked.{only_one, same_found}

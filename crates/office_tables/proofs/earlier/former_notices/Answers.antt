@@ -1,9 +1,4 @@
-use Rattle.std.specs.Prelude.{map}
-use Rattle.std.proofs.Common.{◌≡◌, ◌∙◌, ap}
-use Rattle.sqlite.specs.Effect.{Database}
-use Rattle.office_tables.specs.declared.tables.notices.FormerNotice.{FormerNotice}
-use Rattle.office_tables.specs.Earlier.{HoldsEdition, former_part, had_former}
-use Rattle.office_tables.specs.Schema.OfficeTable.{FormerNotices}
+use Rattle.office_tables.proofs.Names.{map, ◌≡◌, ◌∙◌, ap, Database, FormerNotice, HoldsEdition, former_part, had_former, FormerNotices}
 use Rattle.office_tables.proofs.EarlierEditions.{former_there, former_notice_in, notices_read}
 use Rattle.office_tables.proofs.ByTable.Notices.{list_former as text, select_list_former}
 use Rattle.office_tables.proofs.Asked.{told_of}

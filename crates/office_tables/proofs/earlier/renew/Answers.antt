@@ -1,10 +1,5 @@
-use Rattle.std.proofs.Common.{arith, [], ◌∷◌}
-use Rattle.sqlite.specs.Held.{state}
-use Rattle.sqlite.specs.State.{HasCleanDisk}
-use Rattle.office_base.specs.declared.records.ClockRow.{ClockRow}
-use Rattle.office_tables.specs.Earlier.{drop_version, had_former}
-use Rattle.office_tables.specs.Statements.{Statement, drops}
-use Rattle.office_tables.specs.Tables.Office.{clock_values, upsert_office}
+use Rattle.office_tables.proofs.Names.{arith, [], ◌∷◌, state, HasCleanDisk, ClockRow, drop_version, had_former, drops, clock_values, upsert_office}
+use Rattle.office_tables.specs.Statements.{Statement}
 use Rattle.office_tables.proofs.Failing.{if_err_with, same_err}
 use Rattle.office_tables.proofs.Held.{goes_on}
 use Rattle.office_tables.proofs.EarlierEditions.{drops_inside, drops_refused}

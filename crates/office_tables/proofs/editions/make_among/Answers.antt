@@ -1,10 +1,5 @@
-use Rattle.std.proofs.Common.{rules, arith, ◌≡◌, ◌∙◌, List, [], ◌∷◌, ◌++◌, ◌+◌, get_or, drop, map, take, ap, sym, subst}
-use Rattle.std.proofs.lemmas.List.{drop_more, drop_all, map-append, take-append-drop, take_all, take_more}
-use Rattle.sqlite.specs.Held.{state}
-use Rattle.sqlite.specs.State.{HasCleanDisk}
-use Rattle.sqlite.proofs.StateLemmas.{survives_then}
-use Rattle.office_tables.specs.Statements.{OneFails, RunAll, Statement, creates}
-use Rattle.office_tables.specs.declared.editions.Later.{Later}
+use Rattle.office_tables.proofs.Names.{rules, arith, ◌≡◌, ◌∙◌, List, [], ◌∷◌, ◌++◌, ◌+◌, get_or, drop, map, take, ap, sym, subst, drop_more, drop_all, map-append, take-append-drop, take_all, take_more, state, HasCleanDisk, survives_then, OneFails, RunAll, Later}
+use Rattle.office_tables.specs.Statements.{Statement, creates}
 use Rattle.office_tables.proofs.Failing.{same_err}
 use Rattle.office_tables.proofs.LaterTables.{LaterLine, MadeLater, later_first, later_more, later_all}
 use Rattle.office_tables.proofs.MakingSteps.{goes_refused}

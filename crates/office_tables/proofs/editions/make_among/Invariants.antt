@@ -1,11 +1,5 @@
-use Rattle.std.proofs.Common.{◌≡◌, true, List, drop, map, take, IsTrue}
-use Rattle.sqlite_rules.specs.Lists.{Has}
-use Rattle.sqlite.specs.Held.{state}
-use Rattle.sqlite.specs.State.{HasCleanDisk, Survives}
-use Rattle.office_tables.specs.Editions.{lacks_table, later_line}
-use Rattle.office_tables.specs.Schema.{OfficeTable}
-use Rattle.office_tables.specs.Statements.{RunAll, creates}
-use Rattle.office_tables.specs.declared.editions.Later.{Later}
+use Rattle.office_tables.proofs.Names.{◌≡◌, true, List, drop, map, take, IsTrue, Has, state, HasCleanDisk, Survives, lacks_table, later_line, OfficeTable, RunAll, Later}
+use Rattle.office_tables.specs.Statements.{creates}
 use Rattle.office_tables.proofs.LaterTables.{MadeLater}
 use Rattle.office_tables.proofs.editions.make_among.Given as goal
 

@@ -1,5 +1,4 @@
-use Rattle.std.proofs.Common.{refl}
-use Rattle.office_tables.specs.Editions.{later_tables}
+use Rattle.office_tables.proofs.Names.{refl, later_tables}
 use Rattle.office_tables.proofs.LaterTables.{is_later}
 use Rattle.office_tables.proofs.editions.make_later.Goals as goal
 

@@ -1,6 +1,5 @@
-use Rattle.std.proofs.Common.{rules, ◌≡◌, [], ◌∷◌, ◌++◌, cond, true, sym, subst}
-use Rattle.std.specs.Prelude.{IfErr, OnOk, nat_lt}
-use Rattle.office_tables.specs.Statements.{OneFails, RunAll, Statement}
+use Rattle.office_tables.proofs.Names.{rules, ◌≡◌, [], ◌∷◌, ◌++◌, cond, true, sym, subst, IfErr, OnOk, nat_lt, OneFails, RunAll}
+use Rattle.office_tables.specs.Statements.{Statement}
 use Rattle.office_tables.proofs.Failing.{if_err_with}
 use Rattle.office_tables.proofs.Statements.{fails_one, run_one}
 use Rattle.office_tables.proofs.Stepping.{on_ok_with}

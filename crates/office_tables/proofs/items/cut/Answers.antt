@@ -1,4 +1,4 @@
-use Rattle.std.proofs.Common.{sym}
+use Rattle.office_tables.proofs.Names.{sym}
 use Rattle.office_tables.proofs.ItemReading.{cut_at, uncut}
 use Rattle.office_tables.proofs.items.cut.Goals as goal
 

@@ -1,6 +1,4 @@
-use Rattle.std.proofs.Common.{ap, sym, subst, ◌∙◌}
-use Rattle.office_values.specs.Ids.{IsId}
-use Rattle.office_tables.specs.ItemTexts.{text_before, text_behind, Avoids}
+use Rattle.office_tables.proofs.Names.{ap, sym, subst, ◌∙◌, IsId, text_before, text_behind, Avoids}
 use Rattle.office_tables.proofs.Exactly.{exit}
 use Rattle.office_tables.proofs.ItemReading.{parts_of, no_id, no_quantity, no_title}
 use Rattle.office_tables.proofs.items.front_item.Goals as goal

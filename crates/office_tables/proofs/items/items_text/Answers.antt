@@ -1,7 +1,4 @@
-use Rattle.std.proofs.Common.{rules, arith, List, ℕ, ◌≡◌, ◌++◌, ◌+◌, [], ◌∷◌, take, ap, subst, ◌∙◌, sym}
-use Rattle.std.proofs.lemmas.List.{take_more, take_all}
-use Rattle.std.specs.List.{AllByRecursion}
-use Rattle.office_tables.specs.ItemTexts.{item_then, items_text, items_in_text, IsItem}
+use Rattle.office_tables.proofs.Names.{rules, arith, List, ℕ, ◌≡◌, ◌++◌, ◌+◌, [], ◌∷◌, take, ap, subst, ◌∙◌, sym, take_more, take_all, AllByRecursion, item_then, items_text, items_in_text, IsItem}
 use Rattle.office_tables.proofs.ItemLemmas.{items_text-push, all-push, items_back}
 use Rattle.office_tables.proofs.ItemReading.{all_fit}
 use Rattle.office_tables.proofs.items.items_text.Goals as goal

@@ -1,6 +1,4 @@
-use Rattle.std.proofs.Common.{◌≡◌, take}
-use Rattle.std.specs.List.{AllByRecursion}
-use Rattle.office_tables.specs.ItemTexts.{items_text, IsItem}
+use Rattle.office_tables.proofs.Names.{◌≡◌, take, AllByRecursion, items_text, IsItem}
 use Rattle.office_tables.proofs.items.items_text.Given as goal
 
 abbrev pub invariant-items : goal.invariant-items

@@ -1,5 +1,4 @@
-use Rattle.std.proofs.Common.{◌∙◌, ap, arith}
-use Rattle.std.specs.Fmt.{decimal}
+use Rattle.office_tables.proofs.Names.{◌∙◌, ap, arith, decimal}
 use Rattle.office_tables.proofs.ItemLemmas.{six}
 use Rattle.office_tables.proofs.items.push_item.Goals as goal
 

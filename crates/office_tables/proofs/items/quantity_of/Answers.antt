@@ -1,4 +1,4 @@
-use Rattle.std.proofs.Common.{arith, sym, ◌∙◌, true≢false, inl, inr}
+use Rattle.office_tables.proofs.Names.{arith, sym, ◌∙◌, true≢false, inl, inr}
 use Rattle.office_tables.proofs.ItemReading.{no_words, no_number, other_number}
 use Rattle.office_tables.proofs.items.quantity_of.Goals as goal
 

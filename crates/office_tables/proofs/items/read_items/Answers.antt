@@ -1,6 +1,4 @@
-use Rattle.std.proofs.Common.{rules, ◌≡◌, ◌++◌, [], ◌∷◌, sym, subst}
-use Rattle.std.specs.List.{AllByRecursion}
-use Rattle.office_tables.specs.ItemTexts.{items_text, IsItem}
+use Rattle.office_tables.proofs.Names.{rules, ◌≡◌, ◌++◌, [], ◌∷◌, sym, subst, AllByRecursion, items_text, IsItem}
 use Rattle.office_tables.proofs.Exactly.{exit}
 use Rattle.office_tables.proofs.ItemLemmas.{all-push}
 use Rattle.office_tables.proofs.ItemReading.{some_left, none_left, one_more, items_unwritten, items_fit, items_read, items_refused}

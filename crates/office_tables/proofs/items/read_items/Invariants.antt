@@ -1,6 +1,4 @@
-use Rattle.std.proofs.Common.{◌≡◌, ◌++◌, length}
-use Rattle.std.specs.List.{AllByRecursion}
-use Rattle.office_tables.specs.ItemTexts.{items_text, IsItem}
+use Rattle.office_tables.proofs.Names.{◌≡◌, ◌++◌, length, AllByRecursion, items_text, IsItem}
 use Rattle.office_tables.proofs.items.read_items.Given as goal
 
 abbrev pub invariant-items : goal.invariant-items

@@ -1,13 +1,9 @@
-use Rattle.std.proofs.Common.{[], ◌∷◌, refl, arith}
-use Rattle.sqlite.specs.Held.{state}
-use Rattle.sqlite.specs.State.{HasCleanDisk}
-use Rattle.office_tables.specs.Making.{AreIndexings}
-use Rattle.office_tables.specs.Schema.OfficeTable.{Lots, Envelopes, Securities, Awards, Contracts}
-use Rattle.office_tables.specs.Tables.Lots.{create_lots_of_line, lots_of_line}
-use Rattle.office_tables.specs.Tables.Envelopes.{create_envelopes_of_notice, envelopes_of_notice}
-use Rattle.office_tables.specs.Tables.Securities.{create_securities_of_notice, securities_of_notice}
-use Rattle.office_tables.specs.Tables.Awards.{create_awards_of_notice, awards_of_notice}
-use Rattle.office_tables.specs.Tables.Contracts.{create_contracts_of_notice, contracts_of_notice}
+use Rattle.office_tables.proofs.Names.{[], ◌∷◌, refl, arith, state, HasCleanDisk, AreIndexings, Lots, Envelopes, Securities, Awards, Contracts, create_lots_of_line, create_envelopes_of_notice, create_securities_of_notice, create_awards_of_notice, create_contracts_of_notice}
+use Rattle.office_tables.specs.Tables.Lots.{lots_of_line}
+use Rattle.office_tables.specs.Tables.Envelopes.{envelopes_of_notice}
+use Rattle.office_tables.specs.Tables.Securities.{securities_of_notice}
+use Rattle.office_tables.specs.Tables.Awards.{awards_of_notice}
+use Rattle.office_tables.specs.Tables.Contracts.{contracts_of_notice}
 use Rattle.office_tables.proofs.ByTable.Lots.{indexes_lots_of_line}
 use Rattle.office_tables.proofs.ByTable.Envelopes.{indexes_envelopes_of_notice}
 use Rattle.office_tables.proofs.ByTable.Securities.{indexes_securities_of_notice}

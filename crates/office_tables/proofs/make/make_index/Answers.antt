@@ -1,4 +1,4 @@
-use Rattle.sqlite.specs.Held.{state}
+use Rattle.office_tables.proofs.Names.{state}
 use Rattle.office_tables.proofs.MakingSteps.{indexed_one}
 use Rattle.office_tables.proofs.Stepping.{on_ok_with}
 use Rattle.office_tables.proofs.make.make_index.Goals as goal

@@ -1,9 +1,4 @@
-use Rattle.std.proofs.Common.{rules, arith, ◌≡◌, [], ◌∷◌, ◌+◌, get_or, drop, map, subst}
-use Rattle.std.proofs.lemmas.List.{drop_more}
-use Rattle.sqlite.specs.Held.{state}
-use Rattle.sqlite.specs.State.{HasCleanDisk}
-use Rattle.sqlite.proofs.StateLemmas.{survives_then}
-use Rattle.office_tables.specs.Making.{AreIndexings}
+use Rattle.office_tables.proofs.Names.{rules, arith, ◌≡◌, [], ◌∷◌, ◌+◌, get_or, drop, map, subst, drop_more, state, HasCleanDisk, survives_then, AreIndexings}
 use Rattle.office_tables.proofs.MakingSteps.{indexes_then, goes_refused}
 use Rattle.office_tables.proofs.Stepping.{on_err}
 use Rattle.office_tables.proofs.make.make_indexes.Goals as goal

@@ -1,7 +1,4 @@
-use Rattle.std.proofs.Common.{◌≡◌, ◌∷◌, drop, map, IsTrue}
-use Rattle.sqlite.specs.Held.{state}
-use Rattle.sqlite.specs.State.{HasCleanDisk, Survives}
-use Rattle.office_tables.specs.Making.{AreIndexings, Indexes}
+use Rattle.office_tables.proofs.Names.{◌≡◌, ◌∷◌, drop, map, IsTrue, state, HasCleanDisk, Survives, AreIndexings, Indexes}
 use Rattle.office_tables.proofs.make.make_indexes.Given as goal
 
 abbrev pub invariant-texts : goal.invariant-texts

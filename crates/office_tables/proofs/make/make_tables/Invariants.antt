@@ -1,8 +1,4 @@
-use Rattle.std.proofs.Common.{◌≡◌, ◌∷◌, [], List, drop, map, IsTrue}
-use Rattle.sqlite.specs.Held.{state}
-use Rattle.sqlite.specs.State.{HasCleanDisk, Survives}
-use Rattle.office_tables.specs.Making.{onto}
-use Rattle.office_tables.specs.Schema.{OfficeTable, create_of}
+use Rattle.office_tables.proofs.Names.{◌≡◌, ◌∷◌, [], List, drop, map, IsTrue, state, HasCleanDisk, Survives, onto, OfficeTable, create_of}
 use Rattle.office_tables.proofs.MakingSteps.{MadeOf}
 use Rattle.office_tables.proofs.make.make_tables.Given as goal
 

@@ -1,4 +1,4 @@
-use Rattle.sqlite.specs.Held.{state}
+use Rattle.office_tables.proofs.Names.{state}
 use Rattle.office_tables.proofs.Stepping.{refuses, on_err}
 use Rattle.office_tables.proofs.statement.execute_one.Goals as goal
 

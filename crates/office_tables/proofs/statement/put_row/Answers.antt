@@ -1,6 +1,4 @@
-use Rattle.std.proofs.Common.{Ok, Err, sym, subst₂}
-use Rattle.sqlite.specs.Held.{state}
-use Rattle.sqlite.specs.State.{ExecutesInside}
+use Rattle.office_tables.proofs.Names.{Ok, Err, sym, subst₂, state, ExecutesInside}
 use Rattle.office_tables.proofs.Each.{puts_of}
 use Rattle.office_tables.proofs.Failing.{if_err_with, put_fails}
 use Rattle.office_tables.proofs.Stepping.{on_ok_with}

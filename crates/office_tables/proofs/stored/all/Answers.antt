@@ -1,5 +1,4 @@
-use Rattle.std.proofs.Common.{arith, sym, ◌∙◌}
-use Rattle.std.proofs.lemmas.List.{take_all}
+use Rattle.office_tables.proofs.Names.{arith, sym, ◌∙◌, take_all}
 use Rattle.office_tables.proofs.Exactly.{exit, one_unwritten}
 use Rattle.office_tables.proofs.stored.all.Goals as goal
 

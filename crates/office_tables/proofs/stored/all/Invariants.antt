@@ -1,5 +1,4 @@
-use Rattle.std.proofs.Common.{◌≡◌, map, take}
-use Rattle.std.specs.List.{AllByRecursion}
+use Rattle.office_tables.proofs.Names.{◌≡◌, map, take, AllByRecursion}
 use Rattle.office_tables.proofs.stored.all.Given as goal
 
 abbrev pub invariant-rows : goal.invariant-rows

@@ -1,5 +1,4 @@
-use Rattle.std.proofs.Common.{[]}
-use Rattle.sqlite.specs.Held.{state}
+use Rattle.office_tables.proofs.Names.{[], state}
 use Rattle.office_tables.proofs.Failing.{same_err, begin_fails}
 use Rattle.office_tables.proofs.Reading.{not_run_kept}
 use Rattle.office_tables.proofs.Stepping.{on_err}

@@ -1,6 +1,4 @@
-use Rattle.std.proofs.Common.{[], refl}
-use Rattle.office_tables.specs.Making.{onto}
-use Rattle.office_tables.specs.Schema.{all_tables}
+use Rattle.office_tables.proofs.Names.{[], refl, onto, all_tables}
 use Rattle.office_tables.proofs.tables.make_office.Goals as goal
 
 pub returns-clause-made : goal.returns-clause-made

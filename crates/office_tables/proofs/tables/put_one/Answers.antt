@@ -1,4 +1,4 @@
-use Rattle.std.proofs.Common.{refl, sym}
+use Rattle.office_tables.proofs.Names.{refl, sym}
 use Rattle.office_base.specs.declared.puts.Put.TheVariants as put
 use Rattle.office_tables.proofs.tables.put_one.Goals as goal
 

@@ -1,5 +1,4 @@
-use Rattle.std.proofs.Common.{rules, ◌≡◌, IsTrue}
-use Rattle.sqlite.specs.Held.{state}
+use Rattle.office_tables.proofs.Names.{rules, ◌≡◌, IsTrue, state}
 use Rattle.office_tables.proofs.Versions.{asked_version, refused_version}
 use Rattle.office_tables.proofs.version.ask_version.Goals as goal
 

@@ -1,5 +1,4 @@
-use Rattle.std.proofs.Common.{refl, subst, sym, List, ℕ, []}
-use Rattle.procure_programs.specs.Placed.{HoldNoTable}
+use Rattle.procure_programs.proofs.Names.{refl, subst, sym, List, ℕ, [], HoldNoTable}
 use Rattle.procure_programs.proofs.EmptyFile.{holds_no_table}
 use Rattle.procure_programs.proofs.blank.empty_database.Goals as goal
 

@@ -1,7 +1,4 @@
-use Rattle.std.proofs.Common.{List, ℕ, subst}
-use Rattle.std.proofs.lemmas.Result.{err_from_is_err_and}
-use Rattle.std.specs.Io.KnownBytes.{Appends}
-use Rattle.office_wire.specs.Sending.{AppendsPart}
+use Rattle.procure_programs.proofs.Names.{List, ℕ, subst, err_from_is_err_and, Appends, AppendsPart}
 use Rattle.procure_programs.proofs.connection.refuse.Goals as goal
 
 pub returns-clause-told : goal.returns-clause-told

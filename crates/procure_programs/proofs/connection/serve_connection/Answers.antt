@@ -1,5 +1,4 @@
-use Rattle.std.proofs.Common.{◌∙◌, ℕ, List, Option, refl, subst}
-use Rattle.office_http.specs.Runs.{IsServed}
+use Rattle.procure_programs.proofs.Names.{◌∙◌, ℕ, List, Option, refl, subst, IsServed}
 use Rattle.procure_programs.proofs.ConnectionSteps.{buffers, ended_refused, refused_connection}
 use Rattle.procure_programs.proofs.connection.serve_connection.Goals as goal
 

@@ -1,8 +1,4 @@
-use Rattle.std.proofs.Common.{◌∙◌, inl, ℕ, ap, subst}
-use Rattle.office_base.specs.Tables.{Tables}
-use Rattle.office_desk.specs.Desks.{DeskOf}
-use Rattle.office_memory.specs.MemoryMeaning.{memory_meaning}
-use Rattle.procure_programs.specs.Streams.{AnswersBlocks}
+use Rattle.procure_programs.proofs.Names.{◌∙◌, inl, ℕ, ap, subst, Tables, DeskOf, memory_meaning, AnswersBlocks}
 use Rattle.procure_programs.proofs.desk.answer_from_empty.Goals as goal
 
 pub returns-in-Ok-clause-ran : goal.returns-in-Ok-clause-ran

@@ -1,5 +1,4 @@
-use Rattle.std.proofs.Common.{Err, ap, refl}
-use Rattle.procure_config.specs.declared.fault.ProgramFault.{ProgramFault}
+use Rattle.procure_programs.proofs.Names.{Err, ap, refl, ProgramFault}
 use Rattle.procure_programs.proofs.desk.answer_streams.Goals as goal
 
 pub returns-in-Ok-clause-ran : goal.returns-in-Ok-clause-ran

@@ -1,4 +1,4 @@
-use Rattle.std.proofs.Common.{inl, inr, refl}
+use Rattle.procure_programs.proofs.Names.{inl, inr, refl}
 use Rattle.procure_programs.proofs.desk.desk_on.Goals as goal
 
 pub returns-in-Ok-clause-ran : goal.returns-in-Ok-clause-ran

@@ -1,4 +1,4 @@
-use Rattle.std.proofs.Common.{inl, inr}
+use Rattle.procure_programs.proofs.Names.{inl, inr}
 use Rattle.procure_programs.proofs.ItemSteps.{one_more, no_more, all_done}
 use Rattle.procure_programs.proofs.items.each_of.Goals as goal
 

@@ -1,4 +1,4 @@
-use Rattle.std.proofs.Common.{inl, inr, sym}
+use Rattle.procure_programs.proofs.Names.{inl, inr, sym}
 use Rattle.procure_programs.proofs.ItemSteps.{object_read, no_json}
 use Rattle.procure_programs.proofs.items.object_in.Goals as goal
 

@@ -1,4 +1,4 @@
-use Rattle.std.proofs.Common.{inl, inr, refl}
+use Rattle.procure_programs.proofs.Names.{inl, inr, refl}
 use Rattle.procure_programs.proofs.jobs.serve_under.Goals as goal
 
 pub returns-in-Ok : goal.returns-in-Ok

@@ -1,4 +1,4 @@
-use Rattle.std.proofs.Common.{refl}
+use Rattle.procure_programs.proofs.Names.{refl}
 use Rattle.procure_programs.proofs.jobs.work_on.Goals as goal
 
 pub returns-in-Serve : goal.returns-in-Serve

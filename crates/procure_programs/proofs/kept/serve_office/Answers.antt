@@ -1,6 +1,4 @@
-use Rattle.std.proofs.Common.{◌∙◌, ap}
-use Rattle.office_desk.specs.Desks.{DeskOf}
-use Rattle.procure_programs.specs.Hosts.{hosting}
+use Rattle.procure_programs.proofs.Names.{◌∙◌, ap, DeskOf, hosting}
 use Rattle.procure_programs.proofs.ServingSteps.{was_served, was_served_at}
 use Rattle.procure_programs.proofs.kept.serve_office.Goals as goal
 

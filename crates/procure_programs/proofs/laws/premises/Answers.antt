@@ -1,9 +1,4 @@
-use Rattle.std.proofs.Common.{◌≡◌, inl, inr, refl, sym, subst, ℕ, []}
-use Rattle.office_base.specs.Tables.{Tables, IsSorted, no_tables}
-use Rattle.office_publications.specs.Publishing.{publishing}
-use Rattle.office_publications.specs.Standing.{IsReached}
-use Rattle.office_values.specs.declared.settings.Publisher.{Publisher}
-use Rattle.office_memory.specs.MemoryMeaning.{memory_meaning}
+use Rattle.procure_programs.proofs.Names.{◌≡◌, inl, inr, refl, sym, subst, ℕ, [], Tables, IsSorted, no_tables, publishing, IsReached, Publisher, memory_meaning}
 use Rattle.procure_programs.proofs.laws.premises.Goals as goal
 
 pub returns : goal.returns

@@ -1,4 +1,4 @@
-use Rattle.office_base.specs.Shelves.{Looks}
+use Rattle.procure_programs.proofs.Names.{Looks}
 use Rattle.procure_programs.proofs.ListedPages.{IsListed}
 use Rattle.procure_programs.proofs.listing.list_notices.Given as goal
 

@@ -1,5 +1,5 @@
 use Rattle.procure_programs.proofs.ConnectionSteps.{of_printing, of_refusal, printed, printed_nothing}
-use Rattle.std.proofs.Common.{refl}
+use Rattle.procure_programs.proofs.Names.{refl}
 use Rattle.procure_programs.proofs.printing.print.Goals as goal
 
 pub returns-in-Ok-clause-looks : goal.returns-in-Ok-clause-looks

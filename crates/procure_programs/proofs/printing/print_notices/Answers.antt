@@ -1,5 +1,4 @@
-use Rattle.std.proofs.KnownBytes.{Appends-kept}
-use Rattle.tender_papers.specs.Listing.{listing_text}
+use Rattle.procure_programs.proofs.Names.{Appends-kept, listing_text}
 use Rattle.procure_programs.proofs.printing.print_notices.Goals as goal
 
 pub returns-in-Ok-clause-listed : goal.returns-in-Ok-clause-listed

@@ -1,5 +1,4 @@
-use Rattle.std.proofs.Common.{◌≡◌, ◌++◌, ◌∙◌, ap, ap₂, append_assoc}
-use Rattle.std.specs.Prelude.{codes, decimal}
+use Rattle.procure_programs.proofs.Names.{◌≡◌, ◌++◌, ◌∙◌, ap, ap₂, append_assoc, codes, decimal}
 use Rattle.procure_programs.proofs.reading.put_row.Goals as goal
 
 pub returns : goal.returns

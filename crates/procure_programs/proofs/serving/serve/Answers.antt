@@ -1,4 +1,4 @@
-use Rattle.procure_programs.specs.Hosts.{hosting}
+use Rattle.procure_programs.proofs.Names.{hosting}
 use Rattle.procure_programs.proofs.Turns.{serves_steps, turns_before, turns_fault}
 use Rattle.procure_programs.proofs.serving.serve.Goals as goal
 

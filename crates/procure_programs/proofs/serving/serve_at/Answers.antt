@@ -1,5 +1,4 @@
-use Rattle.std.proofs.Common.{inl, inr, refl}
-use Rattle.procure_programs.specs.Hosts.{hosting}
+use Rattle.procure_programs.proofs.Names.{inl, inr, refl, hosting}
 use Rattle.procure_programs.proofs.ServingSteps.{served_none, serving_kept}
 use Rattle.procure_programs.proofs.Turns.{takes_turns}
 use Rattle.procure_programs.proofs.serving.serve_at.Goals as goal

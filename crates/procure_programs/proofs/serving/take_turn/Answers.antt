@@ -1,6 +1,4 @@
-use Rattle.std.proofs.Common.{inr, sym, ◌∙◌}
-use Rattle.std.proofs.lemmas.Result.{err_from_is_err_and}
-use Rattle.procure_programs.specs.Hosts.{hosting}
+use Rattle.procure_programs.proofs.Names.{inr, sym, ◌∙◌, err_from_is_err_and, hosting}
 use Rattle.procure_programs.proofs.Turns.{asks, ends_by, none_taken}
 use Rattle.procure_programs.proofs.serving.take_turn.Goals as goal
 

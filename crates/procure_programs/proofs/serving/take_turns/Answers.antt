@@ -1,5 +1,4 @@
-use Rattle.std.proofs.lemmas.Result.{err_from_is_err_and}
-use Rattle.procure_programs.specs.Hosts.{hosting}
+use Rattle.procure_programs.proofs.Names.{err_from_is_err_and, hosting}
 use Rattle.procure_programs.proofs.Turns.{one_more}
 use Rattle.procure_programs.proofs.serving.take_turns.Goals as goal
 

@@ -1,5 +1,4 @@
-use Rattle.procure_programs.specs.Hosts.{hosting}
-use Rattle.procure_programs.specs.Turns.{GoesOnFor}
+use Rattle.procure_programs.proofs.Names.{hosting, GoesOnFor}
 use Rattle.procure_programs.proofs.serving.take_turns.Given as goal
 
 abbrev pub invariant-connections : goal.invariant-connections

@@ -1,4 +1,4 @@
-use Rattle.sqlite_wal.specs.Files.{image_at}
+use Rattle.procure_programs.proofs.Names.{image_at}
 use Rattle.procure_programs.proofs.EmptyOpened.{had_office, opens_empty}
 use Rattle.procure_programs.proofs.store.open_office.Goals as goal
 

@@ -1,9 +1,4 @@
-use Rattle.std.proofs.Common.{◌≡◌, true, Result, subst, sym}
-use Rattle.std.specs.Prelude.{OnOk}
-use Rattle.procure_config.specs.declared.fault.ProgramFault.{ProgramFault}
-use Rattle.sqlite_wal.specs.Files.{image_at}
-use Rattle.sqlite.specs.Files.{over_files}
-use Rattle.office_store.specs.SqlMeaning.{sql_meaning}
+use Rattle.procure_programs.proofs.Names.{◌≡◌, true, Result, subst, sym, OnOk, ProgramFault, image_at, over_files, sql_meaning}
 use Rattle.procure_programs.proofs.OpenedFiles.{closes, closes_used, half_prints, kept_served, prints_files}
 use Rattle.procure_programs.proofs.StoppedFiles.{closes_half}
 use Rattle.procure_programs.proofs.store.print_from.Goals as goal

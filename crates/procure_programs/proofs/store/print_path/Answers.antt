@@ -1,5 +1,4 @@
-use Rattle.std.proofs.Common.{Ok, Err, refl}
-use Rattle.sqlite_wal.specs.Files.{image_at}
+use Rattle.procure_programs.proofs.Names.{Ok, Err, refl, image_at}
 use Rattle.procure_programs.proofs.OpenedFiles.{prints_by}
 use Rattle.procure_programs.proofs.store.print_path.Goals as goal
 

@@ -1,5 +1,4 @@
-use Rattle.sqlite_wal.specs.Files.{image_at}
-use Rattle.procure_programs.specs.Hosts.{hosting}
+use Rattle.procure_programs.proofs.Names.{image_at, hosting}
 use Rattle.procure_programs.proofs.OpenedFiles.{closes, closes_used, serves_at}
 use Rattle.procure_programs.proofs.StoppedFiles.{closes_half, half_serves}
 use Rattle.procure_programs.proofs.store.serve_from.Goals as goal

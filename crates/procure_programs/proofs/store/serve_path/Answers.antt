@@ -1,6 +1,4 @@
-use Rattle.std.proofs.Common.{Ok, Err, refl}
-use Rattle.sqlite_wal.specs.Files.{image_at}
-use Rattle.procure_programs.specs.Hosts.{hosting}
+use Rattle.procure_programs.proofs.Names.{Ok, Err, refl, image_at, hosting}
 use Rattle.procure_programs.proofs.OpenedFiles.{ends_by}
 use Rattle.procure_programs.proofs.store.serve_path.Goals as goal
 

@@ -1,7 +1,5 @@
-use Rattle.std.proofs.Common.{subst, sym}
-use Rattle.office_store.specs.SqlMeaning.{sql_meaning}
+use Rattle.procure_programs.proofs.Names.{subst, sym, sql_meaning, WasServed}
 use Rattle.procure_programs.proofs.RememberedServing.{served_inside}
-use Rattle.procure_programs.specs.Serving.{WasServed}
 use Rattle.procure_programs.proofs.store.serve_shelf.Goals as goal
 
 pub returns-clause-serves : goal.returns-clause-serves

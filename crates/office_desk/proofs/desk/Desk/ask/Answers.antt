@@ -1,5 +1,4 @@
-use Rattle.office_machine.specs.Machine.{Given}
-use Rattle.office_plans.specs.Asking.{given}
+use Rattle.office_desk.proofs.Names.{Given, given}
 use Rattle.office_desk.proofs.Accounted.{Laws, joined_refused}
 use Rattle.office_desk.proofs.Doing.{does_nothing, does_what_was_planned}
 use Rattle.office_desk.proofs.desk.Desk.ask.Goals as goal

@@ -1,9 +1,4 @@
-use Rattle.std.proofs.Common.{subst}
-use Rattle.std.specs.Prelude.{OnOk}
-use Rattle.office_base.specs.Tables.{Tables}
-use Rattle.office_base.specs.Shelves.{Looks}
-use Rattle.office_desk.specs.Desks.{DeskOf}
-use Rattle.office_desk.specs.Steps.{HasShown, IsSeen, TellsQuery, read_text}
+use Rattle.office_desk.proofs.Names.{subst, OnOk, Tables, Looks, DeskOf, HasShown, IsSeen, TellsQuery, read_text}
 use Rattle.office_desk.proofs.desk.Desk.look.Goals as goal
 
 pub returns-clause-looks : goal.returns-clause-looks

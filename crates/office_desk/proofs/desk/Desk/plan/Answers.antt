@@ -1,8 +1,4 @@
-use Rattle.std.proofs.Common.{rules, ◌≡◌, ℕ, false, inl, inr, subst}
-use Rattle.office_base.specs.Faults.{HasRisen}
-use Rattle.office_plans.specs.Asking.{given}
-use Rattle.office_plans.specs.Published.{TellsRefusal, gathers_lines}
-use Rattle.office_desk.specs.Desks.{DeskOf}
+use Rattle.office_desk.proofs.Names.{rules, ◌≡◌, ℕ, false, inl, inr, subst, HasRisen, given, TellsRefusal, gathers_lines, DeskOf}
 use Rattle.office_desk.proofs.desk.Desk.plan.Goals as goal
 
 pub returns-in_err-planned-clause-tells : goal.returns-in_err-planned-clause-tells

@@ -1,10 +1,4 @@
-use Rattle.std.proofs.Common.{arith, ◌≡◌, ◌++◌, take, ap, sym, refl, ◌∙◌}
-use Rattle.std.specs.List.{flat_map}
-use Rattle.std.proofs.lemmas.List.{take_all}
-use Rattle.std.proofs.lemmas.List.Folds.{flat_map-map}
-use Rattle.office_base.specs.declared.records.LotRow.{LotRow}
-use Rattle.office_machine.specs.Evaluation.{evaluated_lot}
-use Rattle.office_plans.specs.Replies.{evaluated_lines}
+use Rattle.office_desk.proofs.Names.{arith, ◌≡◌, ◌++◌, take, ap, sym, refl, ◌∙◌, flat_map, take_all, flat_map-map, LotRow, evaluated_lot, evaluated_lines}
 use Rattle.office_desk.proofs.Listed.{one_more}
 use Rattle.office_desk.proofs.queries.evaluation.lots_text.Goals as goal
 

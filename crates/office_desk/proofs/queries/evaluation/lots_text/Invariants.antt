@@ -1,8 +1,4 @@
-use Rattle.std.proofs.Common.{◌≡◌, ◌++◌, take}
-use Rattle.std.specs.List.{flat_map}
-use Rattle.office_base.specs.Shelves.{Looks}
-use Rattle.office_machine.specs.Evaluation.{evaluated_lot}
-use Rattle.office_plans.specs.Replies.{evaluated_lines}
+use Rattle.office_desk.proofs.Names.{◌≡◌, ◌++◌, take, flat_map, Looks, evaluated_lot, evaluated_lines}
 use Rattle.office_desk.proofs.queries.evaluation.lots_text.Given as goal
 
 abbrev pub invariant-loop-lot : goal.invariant-loop-lot

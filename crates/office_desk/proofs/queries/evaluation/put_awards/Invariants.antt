@@ -1,7 +1,4 @@
-use Rattle.std.proofs.Common.{◌≡◌, ◌++◌, take}
-use Rattle.std.specs.List.{flat_map}
-use Rattle.office_machine.specs.Evaluation.{awards_of_lot}
-use Rattle.tender_papers.specs.Evaluation.{award_line}
+use Rattle.office_desk.proofs.Names.{◌≡◌, ◌++◌, take, flat_map, awards_of_lot, award_line}
 use Rattle.office_desk.proofs.queries.evaluation.put_awards.Given as goal
 
 abbrev pub invariant-loop-award : goal.invariant-loop-award

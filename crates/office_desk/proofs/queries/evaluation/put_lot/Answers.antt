@@ -1,4 +1,4 @@
-use Rattle.std.proofs.Common.{sym, ◌∙◌}
+use Rattle.office_desk.proofs.Names.{sym, ◌∙◌}
 use Rattle.office_desk.proofs.EvaluatedLots.{hidden_lot, shown_lot}
 use Rattle.office_desk.proofs.queries.evaluation.put_lot.Goals as goal
 

@@ -1,13 +1,4 @@
-use Rattle.std.proofs.Common.{arith, ◌≡◌, ◌++◌, take, map, ap, sym, ◌∙◌}
-use Rattle.std.specs.Prelude.{ℕ, List, filter}
-use Rattle.std.specs.List.{flat_map}
-use Rattle.std.proofs.lemmas.List.{take_all}
-use Rattle.std.proofs.lemmas.List.Folds.{flat_map-map}
-use Rattle.office_base.specs.States.{is_read}
-use Rattle.office_base.specs.declared.records.EnvelopeRow.{EnvelopeRow}
-use Rattle.office_machine.specs.Evaluation.{evaluated_tender}
-use Rattle.office_plans.specs.Replies.{finding_of}
-use Rattle.tender_papers.specs.Evaluation.{finding_line}
+use Rattle.office_desk.proofs.Names.{arith, ◌≡◌, ◌++◌, take, map, ap, sym, ◌∙◌, ℕ, List, filter, flat_map, take_all, flat_map-map, is_read, EnvelopeRow, evaluated_tender, finding_of, finding_line}
 use Rattle.office_desk.proofs.queries.evaluation.put_tenders.Goals as goal
 
 pub returns-clause-text : goal.returns-clause-text

@@ -1,11 +1,4 @@
-use Rattle.std.proofs.Common.{◌≡◌, ◌++◌, take}
-use Rattle.std.specs.Prelude.{filter}
-use Rattle.std.specs.List.{flat_map}
-use Rattle.office_base.specs.States.{is_read}
-use Rattle.office_base.specs.declared.records.EnvelopeRow.{EnvelopeRow}
-use Rattle.office_machine.specs.Evaluation.{evaluated_tender}
-use Rattle.office_plans.specs.Replies.{finding_of}
-use Rattle.tender_papers.specs.Evaluation.{finding_line}
+use Rattle.office_desk.proofs.Names.{◌≡◌, ◌++◌, take, filter, flat_map, is_read, EnvelopeRow, evaluated_tender, finding_of, finding_line}
 use Rattle.office_desk.proofs.queries.evaluation.put_tenders.Given as goal
 
 abbrev pub invariant-loop-row : goal.invariant-loop-row

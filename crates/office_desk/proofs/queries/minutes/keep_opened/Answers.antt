@@ -1,5 +1,4 @@
-use Rattle.std.proofs.Common.{rules}
-use Rattle.std.proofs.lemmas.Fn.{filter_same}
+use Rattle.office_desk.proofs.Names.{rules, filter_same}
 use Rattle.office_desk.proofs.queries.minutes.keep_opened.Goals as goal
 
 pub returns : goal.returns

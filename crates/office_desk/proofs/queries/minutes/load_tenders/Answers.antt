@@ -1,10 +1,4 @@
-use Rattle.std.proofs.Common.{◌≡◌, List, sym, subst}
-use Rattle.office_values.specs.Ids.{id_cmp}
-use Rattle.office_base.specs.Tables.{tenderer_key}
-use Rattle.office_base.specs.declared.records.TendererRow.{TendererRow}
-use Rattle.office_plans.specs.LookedUp.{AreFrom, IsAsIn}
-use Rattle.office_plans.specs.Tenderers.{with_tenderer}
-use Rattle.office_plans.proofs.LookedUp.{exact_ids, from_one, here, none_from}
+use Rattle.office_desk.proofs.Names.{◌≡◌, List, sym, subst, id_cmp, tenderer_key, TendererRow, AreFrom, IsAsIn, with_tenderer, exact_ids, from_one, here, none_from}
 use Rattle.office_desk.proofs.OpenedTenders.{next_opened}
 use Rattle.office_desk.proofs.queries.minutes.load_tenders.Goals as goal
 

@@ -1,8 +1,4 @@
-use Rattle.std.proofs.Common.{◌≡◌, take}
-use Rattle.office_values.specs.Ids.{id_cmp}
-use Rattle.office_base.specs.Shelves.{Looks}
-use Rattle.office_base.specs.Tables.{tenderer_key}
-use Rattle.office_plans.specs.LookedUp.{AreFrom}
+use Rattle.office_desk.proofs.Names.{◌≡◌, take, id_cmp, Looks, tenderer_key, AreFrom}
 use Rattle.office_desk.proofs.OpenedTenders.{opened_tenders}
 use Rattle.office_desk.proofs.queries.minutes.load_tenders.Given as goal
 

@@ -1,6 +1,4 @@
-use Rattle.std.proofs.Common.{[]}
-use Rattle.office_commands.specs.declared.command.Caller.TheVariants.{Tenderer}
-use Rattle.office_machine.specs.Sights.{own_of_lot}
+use Rattle.office_desk.proofs.Names.{[], Tenderer, own_of_lot}
 use Rattle.office_desk.proofs.Listed.{one_more}
 use Rattle.office_desk.proofs.queries.own_tenders.load_tenders.Goals as goal
 

@@ -1,8 +1,4 @@
-use Rattle.std.proofs.Common.{◌≡◌, take}
-use Rattle.std.specs.List.{flat_map}
-use Rattle.office_base.specs.Shelves.{Looks}
-use Rattle.office_commands.specs.declared.command.Caller.TheVariants.{Tenderer}
-use Rattle.office_machine.specs.Sights.{own_of_lot}
+use Rattle.office_desk.proofs.Names.{◌≡◌, take, flat_map, Looks, Tenderer, own_of_lot}
 use Rattle.office_desk.proofs.queries.own_tenders.load_tenders.Given as goal
 
 abbrev pub invariant-loop-lot : goal.invariant-loop-lot

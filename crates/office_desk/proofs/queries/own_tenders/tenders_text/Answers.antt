@@ -1,9 +1,4 @@
-use Rattle.std.proofs.Common.{◌≡◌, sym, [], codes, subst}
-use Rattle.std.specs.Prelude.{List, IfOk}
-use Rattle.std.proofs.lemmas.Simd.{map-map}
-use Rattle.office_plans.specs.Json.{Member, object_text, with_objects}
-use Rattle.office_plans.specs.RowMembers.{own_tender_entries}
-use Rattle.office_machine.specs.Sights.{own_tender}
+use Rattle.office_desk.proofs.Names.{◌≡◌, sym, [], codes, subst, List, IfOk, map-map, Member, object_text, with_objects, own_tender_entries, own_tender}
 use Rattle.office_desk.proofs.queries.own_tenders.tenders_text.Goals as goal
 
 pub returns : goal.returns

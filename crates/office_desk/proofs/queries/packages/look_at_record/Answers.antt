@@ -1,4 +1,4 @@
-use Rattle.std.proofs.Common.{◌∙◌, sym}
+use Rattle.office_desk.proofs.Names.{◌∙◌, sym}
 use Rattle.office_desk.proofs.Shown.{record_shown}
 use Rattle.office_desk.proofs.queries.packages.look_at_record.Goals as goal
 

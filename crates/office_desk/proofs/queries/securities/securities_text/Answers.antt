@@ -1,9 +1,4 @@
-use Rattle.std.proofs.Common.{◌≡◌, sym, [], codes, subst}
-use Rattle.std.specs.Prelude.{List, IfOk}
-use Rattle.std.proofs.lemmas.Simd.{map-map}
-use Rattle.office_plans.specs.Json.{Member, object_text, with_objects}
-use Rattle.office_plans.specs.RowMembers.{listed_security_entries}
-use Rattle.office_machine.specs.Sights.{listed_security}
+use Rattle.office_desk.proofs.Names.{◌≡◌, sym, [], codes, subst, List, IfOk, map-map, Member, object_text, with_objects, listed_security_entries, listed_security}
 use Rattle.office_desk.proofs.queries.securities.securities_text.Goals as goal
 
 pub returns : goal.returns

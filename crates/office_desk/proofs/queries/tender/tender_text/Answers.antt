@@ -1,4 +1,4 @@
-use Rattle.std.proofs.Common.{sym}
+use Rattle.office_desk.proofs.Names.{sym}
 use Rattle.office_desk.proofs.queries.tender.tender_text.Goals as goal
 
 pub returns : goal.returns

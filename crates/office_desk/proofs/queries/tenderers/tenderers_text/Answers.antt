@@ -1,13 +1,4 @@
-use Rattle.std.proofs.Common.{◌≡◌, sym, map, take, codes, subst}
-use Rattle.std.specs.Prelude.{List, ℕ, Option, IfOk}
-use Rattle.std.proofs.lemmas.Simd.{map-map}
-use Rattle.office_base.specs.declared.records.TendererRow.{TendererRow}
-use Rattle.office_base.specs.Limits.{page_limit}
-use Rattle.office_base.specs.Pages.{next_after}
-use Rattle.office_base.specs.Tables.{tenderer_key}
-use Rattle.office_plans.specs.Json.{Member, object_text}
-use Rattle.office_plans.specs.RowMembers.{listed_tenderer_entries, page_entries}
-use Rattle.office_machine.specs.Sights.{listed_tenderer}
+use Rattle.office_desk.proofs.Names.{◌≡◌, sym, map, take, codes, subst, List, ℕ, Option, IfOk, map-map, TendererRow, page_limit, next_after, tenderer_key, Member, object_text, listed_tenderer_entries, page_entries, listed_tenderer}
 use Rattle.office_desk.proofs.queries.tenderers.tenderers_text.Goals as goal
 
 pub returns : goal.returns

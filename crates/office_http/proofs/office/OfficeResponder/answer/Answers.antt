@@ -1,6 +1,4 @@
-use Rattle.std.proofs.Common.{sym, subst}
-use Rattle.office_desk.specs.Desks.{DeskOf}
-use Rattle.office_http.specs.Stops.{StandsWatched}
+use Rattle.office_http.proofs.Names.{sym, subst, DeskOf, StandsWatched}
 use Rattle.office_http.proofs.WatchedSteps.{answered_step}
 use Rattle.office_http.proofs.office.OfficeResponder.answer.Goals as goal
 

@@ -1,7 +1,4 @@
-use Rattle.std.proofs.Common.{◌≡◌, ap, ◌∙◌}
-use Rattle.office_base.specs.Joined.{reservations, sums_of_line}
-use Rattle.office_ledger.specs.Listing.{Listing}
-use Rattle.office_ledger.specs.Inside.Listing.{LotListing, all_listed}
+use Rattle.office_ledger.proofs.Names.{◌≡◌, ap, ◌∙◌, reservations, sums_of_line, Listing, LotListing, all_listed}
 use Rattle.office_ledger.proofs.Listed.{sums_listed}
 use Rattle.office_ledger.proofs.Reserved.{reserved_listed}
 use Rattle.office_ledger.proofs.amount_list.AmountList.finish.Goals as goal

@@ -1,5 +1,4 @@
-use Rattle.std.proofs.Common.{ap, ◌∙◌}
-use Rattle.office_ledger.specs.Inside.Listing.{ContractListing}
+use Rattle.office_ledger.proofs.Names.{ap, ◌∙◌, ContractListing}
 use Rattle.office_ledger.proofs.contract_list.ContractList.finish.Goals as goal
 
 pub returns-in-Ok-clause-sums : goal.returns-in-Ok-clause-sums

@@ -1,8 +1,5 @@
-use Rattle.std.proofs.Common.{◌≡◌, ◌+◌, ◌*◌, ◌≤◌, sym, ap, ◌∙◌, subst, arith}
-use Rattle.office_ledger.specs.Taking.{Summing}
-use Rattle.office_ledger.specs.Inside.Adding.{HasRoom}
+use Rattle.office_ledger.proofs.Names.{◌≡◌, ◌+◌, ◌*◌, ◌≤◌, sym, ap, ◌∙◌, subst, arith, Summing, HasRoom, LineSums}
 use Rattle.office_ledger.specs.declared.ledger_sums.LedgerSums.TheInside
-use Rattle.office_ledger.specs.declared.line_sums.LineSums.{LineSums}
 use Rattle.office_ledger.proofs.Rooms.{less_room}
 use Rattle.office_ledger.proofs.ledger_sums.LedgerSums.add.Goals.{in-Some-lot, in_default-lot}
 use Rattle.office_ledger.proofs.ledger_sums.LedgerSums.add.Goals as goal

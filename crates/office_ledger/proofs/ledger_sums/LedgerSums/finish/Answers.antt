@@ -1,8 +1,4 @@
-use Rattle.std.proofs.Common.{◌≡◌, Vec, Global, Some, sym, ap, ◌∙◌, subst}
-use Rattle.office_base.specs.declared.ledger.LedgerRow.{LedgerRow}
-use Rattle.office_base.specs.Joined.{ledger_of}
-use Rattle.office_ledger.specs.Taking.{Summing}
-use Rattle.office_ledger.specs.Inside.Adding.{closed}
+use Rattle.office_ledger.proofs.Names.{◌≡◌, Vec, Global, Some, sym, ap, ◌∙◌, subst, LedgerRow, ledger_of, Summing, closed}
 use Rattle.office_ledger.proofs.Lines.{IsLedger, adds_up}
 use Rattle.office_ledger.proofs.Following.{no_ledger}
 use Rattle.office_ledger.proofs.ledger_sums.LedgerSums.finish.Goals as goal

@@ -1,4 +1,4 @@
-use Rattle.std.proofs.Common.{◌+◌, arith}
+use Rattle.office_ledger.proofs.Names.{◌+◌, arith}
 use Rattle.office_ledger.proofs.Rooms.{less_room}
 use Rattle.office_ledger.proofs.line_sums.LineSums.take.Goals as goal
 

@@ -1,6 +1,4 @@
-use Rattle.std.proofs.Common.{refl}
-use Rattle.std.specs.Cmp.{nat_cmp_total}
-use Rattle.office_base.specs.Tables.{same_number}
+use Rattle.office_memory.proofs.Names.{refl, nat_cmp_total, same_number}
 use Rattle.office_memory.proofs.KeyBounds.{between_ids, ids_in_order}
 use Rattle.office_memory.proofs.belonging.EntryRowChild.key_range.Goals as goal
 

@@ -1,4 +1,4 @@
-use Rattle.std.specs.Cmp.Lexicographic.{nat_list_cmp_total, texts_ties}
+use Rattle.office_memory.proofs.Names.{nat_list_cmp_total, texts_ties}
 use Rattle.office_memory.proofs.KeyBounds.{between_ids, ids_in_order}
 use Rattle.office_memory.proofs.belonging.LotRowChild.key_range.Goals as goal
 

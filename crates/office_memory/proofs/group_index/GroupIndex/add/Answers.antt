@@ -1,7 +1,4 @@
-use Rattle.std.proofs.Common.{◌≡◌, true, false, refl, IsSome, ap, ◌∙◌, subst}
-use Rattle.std.specs.List.{list_any}
-use Rattle.std.specs.BTreeMap.{is_at}
-use Rattle.office_memory.specs.Inside.GroupIndex.{keys_in}
+use Rattle.office_memory.proofs.Names.{◌≡◌, true, false, refl, IsSome, ap, ◌∙◌, subst, list_any, is_at, keys_in}
 use Rattle.office_memory.proofs.GroupIndex.{more_keys, is_only}
 use Rattle.office_memory.proofs.group_index.GroupIndex.add.Goals as goal
 

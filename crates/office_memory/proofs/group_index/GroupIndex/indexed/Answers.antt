@@ -1,5 +1,4 @@
-use Rattle.std.proofs.Common.{ap}
-use Rattle.office_memory.specs.Inside.GroupIndex.{keys_in}
+use Rattle.office_memory.proofs.Names.{ap, keys_in}
 use Rattle.office_memory.proofs.GroupIndex.{rows_found, no_rows}
 use Rattle.office_memory.proofs.group_index.GroupIndex.indexed.Goals as goal
 

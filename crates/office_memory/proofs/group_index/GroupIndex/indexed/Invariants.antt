@@ -1,6 +1,4 @@
-use Rattle.std.proofs.Common.{◌≡◌, ◌++◌, filter, map}
-use Rattle.std.specs.List.{filter_map}
-use Rattle.office_base.specs.Rows.{row_at}
+use Rattle.office_memory.proofs.Names.{◌≡◌, ◌++◌, filter, map, filter_map, row_at}
 use Rattle.office_memory.proofs.group_index.GroupIndex.indexed.Given as goal
 
 -- the found rows and those at the remaining keys are the rows of the group

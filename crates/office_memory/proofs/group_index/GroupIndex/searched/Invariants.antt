@@ -1,4 +1,4 @@
-use Rattle.std.proofs.Common.{◌≡◌, filter, map}
+use Rattle.office_memory.proofs.Names.{◌≡◌, filter, map}
 use Rattle.office_memory.proofs.group_index.GroupIndex.searched.Given as goal
 
 abbrev pub invariant-loop-boxed : goal.invariant-loop-boxed

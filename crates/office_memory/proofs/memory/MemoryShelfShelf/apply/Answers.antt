@@ -1,5 +1,4 @@
-use Rattle.std.proofs.Common.{ap, ◌∙◌}
-use Rattle.office_base.specs.Tables.{after_puts}
+use Rattle.office_memory.proofs.Names.{ap, ◌∙◌, after_puts}
 use Rattle.office_memory.proofs.Applied.{all_made}
 use Rattle.office_memory.proofs.memory.MemoryShelfShelf.apply.Goals as goal
 

@@ -1,17 +1,8 @@
-use Rattle.std.specs.Prelude.{List, ℕ}
-use Rattle.std.proofs.Common.{◌∙◌, ap, refl, sym}
-use Rattle.award_core.specs.Rules.AmendContract.{amend_contract_lacks, amend_contract_puts, amend_contract_rows, amend_contract_tests}
-use Rattle.award_core.specs.declared.amend_contract.AmendContractRows.{AmendContractRows}
-use Rattle.office_commands.specs.declared.commands.Command.TheVariants.{AmendContract}
-use Rattle.office_commands.specs.declared.contract.ChangeKind.{ChangeKind}
-use Rattle.office_base.specs.Tables.{Tables, contract_at}
+use Rattle.office_plans.proofs.Names.{List, ℕ, ◌∙◌, ap, refl, sym, amend_contract_lacks, amend_contract_puts, amend_contract_rows, amend_contract_tests, AmendContractRows, AmendContract, ChangeKind, Tables, contract_at, given_by, option_copied, Asking}
 use Rattle.office_plans.proofs.Numbered.{numbered_contract}
 use Rattle.office_plans.proofs.Publishing.{IsTested, not_planned, puts_on, refused_on, two_looks, whole_on}
 use Rattle.office_plans.proofs.Telling.{fault_told, none_to_tell, refusal_told}
 use Rattle.office_plans.proofs.commands.amend_contract.plan.Goals as goal
-use Rattle.office_plans.specs.Asking.{given_by}
-use Rattle.std.specs.Option.{option_copied}
-use Rattle.tender_core.specs.declared.asking.Asking.{Asking}
 
 -- The tests of the rule are the tests on the loaded rows.
 rule : (asking : Asking) (contract : ℕ) (entry : List ℕ) (kind : ChangeKind) (amount : ℕ) (rationale : List ℕ) → IsTested asking (AmendContract contract entry kind amount rationale) (λ (s : Tables). amend_contract_rows s contract) (λ (rows : AmendContractRows). rows.clock)

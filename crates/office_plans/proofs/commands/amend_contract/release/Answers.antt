@@ -1,17 +1,5 @@
-use Rattle.std.specs.FinMap.{nat_cmp-IsAntisymmetric}
-use Rattle.std.specs.Prelude.{◌≡◌, ℕ, List, Option, Some, max, option_map}
-use Rattle.std.proofs.Common.{◌∙◌, ap, sym}
-use Rattle.office_commands.specs.declared.commands.Command.TheVariants.{AmendContract}
-use Rattle.award_core.specs.declared.amend_contract.AmendContractRows.{AmendContractRows}
-use Rattle.ocds_release.specs.declared.event.Event.{Event}
+use Rattle.office_plans.proofs.Names.{nat_cmp-IsAntisymmetric, ◌≡◌, ℕ, List, Option, Some, max, option_map, ◌∙◌, ap, sym, AmendContract, AmendContractRows, Event, notice_of_contract, contract_at, entries_of_contract, ContractRow, EntryRow, amend_contract_event, contract_value_after, given_by}
 use Rattle.ocds_release.specs.declared.event.Event.TheVariants as events
-use Rattle.office_base.specs.Parents.{notice_of_contract}
-use Rattle.office_base.specs.Tables.{contract_at, entries_of_contract}
-use Rattle.office_base.specs.declared.records.ContractRow.{ContractRow}
-use Rattle.office_base.specs.declared.records.EntryRow.{EntryRow}
-use Rattle.office_publications.specs.ContractEvents.{amend_contract_event}
-use Rattle.office_publications.specs.Worth.{contract_value_after}
-use Rattle.office_plans.specs.Asking.{given_by}
 use Rattle.office_plans.proofs.Maybe.{if_ok}
 use Rattle.office_plans.proofs.commands.amend_contract.release.Goals as goal
 

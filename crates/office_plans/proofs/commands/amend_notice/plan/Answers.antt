@@ -1,15 +1,8 @@
-use Rattle.std.specs.Prelude.{List, ℕ}
-use Rattle.std.proofs.Common.{◌∙◌, ap, refl}
-use Rattle.office_commands.specs.declared.commands.Command.TheVariants.{AmendNotice}
-use Rattle.office_base.specs.Tables.{Tables}
+use Rattle.office_plans.proofs.Names.{List, ℕ, ◌∙◌, ap, refl, AmendNotice, Tables, given_by, amend_notice_puts, amend_notice_rows, amend_notice_tests, AmendNoticeRows, Asking}
 use Rattle.office_plans.proofs.Numbered.{numbered_notice}
 use Rattle.office_plans.proofs.Publishing.{IsTested, not_planned, puts_on, refused_on, two_looks}
 use Rattle.office_plans.proofs.Telling.{fault_told, none_to_tell, refusal_told}
 use Rattle.office_plans.proofs.commands.amend_notice.plan.Goals as goal
-use Rattle.office_plans.specs.Asking.{given_by}
-use Rattle.tender_core.specs.Rules.AmendNotice.{amend_notice_puts, amend_notice_rows, amend_notice_tests}
-use Rattle.tender_core.specs.declared.amend_notice.AmendNoticeRows.{AmendNoticeRows}
-use Rattle.tender_core.specs.declared.asking.Asking.{Asking}
 
 -- The tests of the rule are the tests on the loaded rows.
 rule : (asking : Asking) (notice : List ℕ) (deadline : ℕ) (rationale : List ℕ) → IsTested asking (AmendNotice notice deadline rationale) (λ (s : Tables). amend_notice_rows s notice) (λ (rows : AmendNoticeRows). rows.clock)

@@ -1,14 +1,7 @@
-use Rattle.std.specs.Prelude.{◌≡◌, ℕ, List, Some, max}
-use Rattle.std.proofs.Common.{◌∙◌, ap, refl, sym}
-use Rattle.office_commands.specs.declared.commands.Command.TheVariants.{AmendNotice}
-use Rattle.ocds_release.specs.declared.event.Event.{Event}
+use Rattle.office_plans.proofs.Names.{◌≡◌, ℕ, List, Some, max, ◌∙◌, ap, refl, sym, AmendNotice, Event, notice_at, deadline_in, given_by, AmendNoticeRows}
 use Rattle.ocds_release.specs.declared.event.Event.TheVariants as events
-use Rattle.office_base.specs.Tables.{notice_at}
-use Rattle.office_publications.specs.NoticeEvents.{deadline_in}
-use Rattle.office_plans.specs.Asking.{given_by}
 use Rattle.office_plans.proofs.Maybe.{if_ok}
 use Rattle.office_plans.proofs.commands.amend_notice.release.Goals as goal
-use Rattle.tender_core.specs.declared.amend_notice.AmendNoticeRows.{AmendNoticeRows}
 
 pub returns-clause-release : goal.returns-clause-release
 returns-clause-release c =

@@ -1,18 +1,5 @@
-use Rattle.std.specs.Prelude.{◌≡◌, List, None, Option, Some, map, max, refl}
-use Rattle.std.proofs.Common.{◌∙◌, ap, sym}
-use Rattle.office_commands.specs.declared.commands.Command.TheVariants.{Award}
-use Rattle.award_core.specs.Rules.Award.{winner}
-use Rattle.award_core.specs.declared.award.AwardRows.{AwardRows}
-use Rattle.ocds_release.specs.TenderStatuses.{state_with, tender_status_of}
-use Rattle.ocds_release.specs.declared.event.Event.{Event}
+use Rattle.office_plans.proofs.Names.{◌≡◌, List, None, Option, Some, map, max, refl, ◌∙◌, ap, sym, Award, winner, AwardRows, state_with, tender_status_of, Event, TenderStatus, EnvelopeRow, LotRow, Unsuccessful, award_event, status_with, given_by, awarded_rows}
 use Rattle.ocds_release.specs.declared.event.Event.TheVariants as events
-use Rattle.ocds_release.specs.declared.tender_status.TenderStatus.{TenderStatus}
-use Rattle.office_base.specs.declared.records.EnvelopeRow.{EnvelopeRow}
-use Rattle.office_base.specs.declared.records.LotRow.{LotRow}
-use Rattle.office_base.specs.declared.records.LotState.TheVariants.{Unsuccessful}
-use Rattle.office_publications.specs.AwardEvents.{award_event, status_with}
-use Rattle.office_plans.specs.Asking.{given_by}
-use Rattle.office_plans.specs.AwardedLots.{awarded_rows}
 use Rattle.office_plans.proofs.Maybe.{if_ok}
 use Rattle.office_plans.proofs.commands.award.lost.Goals as goal
 

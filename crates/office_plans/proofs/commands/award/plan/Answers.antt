@@ -1,22 +1,9 @@
-use Rattle.std.specs.Prelude.{Bool, List, Option, false, is_some, ℕ, ◌≡◌, ◌+◌, ◌&&◌, ◌||◌}
-use Rattle.std.proofs.Common.{◌∙◌, ap, refl, sym}
-use Rattle.award_core.specs.Rules.Award.{award_lacks, award_puts, award_tests, winner}
-use Rattle.award_core.specs.declared.award.AwardRows.{AwardRows}
-use Rattle.office_commands.specs.declared.commands.Command.TheVariants.{Award}
-use Rattle.office_base.specs.Tables.{Tables, award_at}
-use Rattle.office_base.specs.declared.records.EnvelopeRow.{EnvelopeRow}
-use Rattle.office_machine.specs.Lacking.{is_lacking}
-use Rattle.office_machine.specs.Machine.{time_of}
-use Rattle.office_machine.specs.Orphans.{award_is_taken}
-use Rattle.office_machine.specs.References.{OfAward, is_named}
+use Rattle.office_plans.proofs.Names.{Bool, List, Option, false, is_some, ℕ, ◌≡◌, ◌+◌, ◌&&◌, ◌||◌, ◌∙◌, ap, refl, sym, award_lacks, award_puts, award_tests, winner, AwardRows, Award, Tables, award_at, EnvelopeRow, is_lacking, time_of, award_is_taken, OfAward, is_named, given_by, awarded_rows, Asking}
 use Rattle.office_plans.proofs.AwardedLots.{same_puts}
 use Rattle.office_plans.proofs.Numbered.{numbered_notice}
 use Rattle.office_plans.proofs.Publishing.{IsTested, four_looks, not_planned, puts_on, refused_on}
 use Rattle.office_plans.proofs.Telling.{fault_told, none_to_tell, refusal_told}
 use Rattle.office_plans.proofs.commands.award.plan.Goals as goal
-use Rattle.office_plans.specs.Asking.{given_by}
-use Rattle.office_plans.specs.AwardedLots.{awarded_rows}
-use Rattle.tender_core.specs.declared.asking.Asking.{Asking}
 
 -- The tests of the rule are the tests on the loaded rows.
 rule : (asking : Asking) (notice : List ℕ) (lot : List ℕ) → IsTested asking (Award notice lot) (λ (s : Tables). awarded_rows s notice lot) (λ (rows : AwardRows). rows.clock)

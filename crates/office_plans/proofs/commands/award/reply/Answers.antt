@@ -1,12 +1,5 @@
-use Rattle.std.specs.Prelude.{◌≡◌, ℕ, List, Option, max, option_map}
-use Rattle.std.proofs.Common.{◌∙◌, ap}
-use Rattle.award_core.specs.Rules.Award.{winner}
-use Rattle.award_core.specs.declared.award.AwardRows.{AwardRows}
-use Rattle.office_base.specs.declared.records.EnvelopeRow.{EnvelopeRow}
-use Rattle.office_machine.specs.Replies.{Awarded, Winning}
+use Rattle.office_plans.proofs.Names.{◌≡◌, ℕ, List, Option, max, option_map, ◌∙◌, ap, winner, AwardRows, EnvelopeRow, Awarded, Winning, awarded_rows, reply_text}
 use Rattle.office_machine.specs.Replies as replies
-use Rattle.office_plans.specs.AwardedLots.{awarded_rows}
-use Rattle.office_plans.specs.Replies.{reply_text}
 use Rattle.office_plans.proofs.Maybe.{if_ok}
 use Rattle.office_plans.proofs.commands.award.reply.Goals as goal
 

@@ -1,17 +1,5 @@
-use Rattle.std.specs.Prelude.{◌≡◌, ℕ, ◌+◌, Option, Some, max, refl}
-use Rattle.std.proofs.Common.{◌∙◌, ap, sym}
-use Rattle.office_commands.specs.declared.commands.Command.TheVariants.{Award}
-use Rattle.award_core.specs.Rules.Award.{price_of, winner}
-use Rattle.award_core.specs.declared.award.AwardRows.{AwardRows}
-use Rattle.ocds_release.specs.declared.event.Event.{Event}
+use Rattle.office_plans.proofs.Names.{◌≡◌, ℕ, ◌+◌, Option, Some, max, refl, ◌∙◌, ap, sym, Award, price_of, winner, AwardRows, Event, Party, tenderer_at, EnvelopeRow, TendererRow, award_event, name_in, given_by, awarded_rows}
 use Rattle.ocds_release.specs.declared.event.Event.TheVariants as events
-use Rattle.ocds_release.specs.declared.event.Party.{Party}
-use Rattle.office_base.specs.Tables.{tenderer_at}
-use Rattle.office_base.specs.declared.records.EnvelopeRow.{EnvelopeRow}
-use Rattle.office_base.specs.declared.records.TendererRow.{TendererRow}
-use Rattle.office_publications.specs.AwardEvents.{award_event, name_in}
-use Rattle.office_plans.specs.Asking.{given_by}
-use Rattle.office_plans.specs.AwardedLots.{awarded_rows}
 use Rattle.office_plans.proofs.Maybe.{if_ok}
 use Rattle.office_plans.proofs.commands.award.won.Goals as goal
 

@@ -1,7 +1,5 @@
-use Rattle.std.proofs.Common.{◌≡◌, map, filter, drop}
-use Rattle.office_base.specs.Shelves.{Looks}
-use Rattle.tender_core.specs.Rules.Cancel.{is_open_lot}
-use Rattle.office_plans.specs.Named.{line_of_lot, with_lines, lines_named}
+use Rattle.office_plans.proofs.Names.{◌≡◌, map, filter, drop, Looks, is_open_lot, with_lines, lines_named}
+use Rattle.office_plans.specs.Named.{line_of_lot}
 use Rattle.office_plans.proofs.commands.cancel.load_lines.Given as goal
 
 abbrev pub invariant-loop-lot : goal.invariant-loop-lot

@@ -1,19 +1,10 @@
-use Rattle.std.specs.Prelude.{List, [], filter, map, max, ℕ}
-use Rattle.std.proofs.Common.{◌∙◌, ap, refl, sym}
-use Rattle.office_commands.specs.declared.commands.Command.TheVariants.{Cancel}
-use Rattle.office_base.specs.Tables.{Tables, lots_of_notice}
-use Rattle.office_machine.specs.Machine.{time_of}
+use Rattle.office_plans.proofs.Names.{List, [], filter, map, max, ℕ, ◌∙◌, ap, refl, sym, Cancel, Tables, lots_of_notice, time_of, given_by, cancel_named, lines_named, cancel_on, cancel_lacks, cancel_puts, cancel_rows, cancel_tests, is_open_lot, Asking, CancelRows}
 use Rattle.office_plans.proofs.NamedLines.{lines_agree}
 use Rattle.office_plans.proofs.Numbered.{numbered_notice}
 use Rattle.office_plans.proofs.Publishing.{IsTested, not_planned, puts_on, refused_on, three_looks, whole_on}
 use Rattle.office_plans.proofs.Telling.{fault_told, none_to_tell, refusal_told}
 use Rattle.office_plans.proofs.commands.cancel.plan.Goals as goal
-use Rattle.office_plans.specs.Asking.{given_by}
-use Rattle.office_plans.specs.Named.{cancel_named, line_of_lot, lines_named}
-use Rattle.tender_core.specs.Agreeing.{cancel_on}
-use Rattle.tender_core.specs.Rules.Cancel.{cancel_lacks, cancel_puts, cancel_rows, cancel_tests, is_open_lot}
-use Rattle.tender_core.specs.declared.asking.Asking.{Asking}
-use Rattle.tender_core.specs.declared.cancel.CancelRows.{CancelRows}
+use Rattle.office_plans.specs.Named.{line_of_lot}
 
 -- The tests of the rule are the tests on the loaded rows, with the lines of the open lots or without any line.
 refused : (asking : Asking) (notice : List ℕ) (rationale : List ℕ)

@@ -1,19 +1,7 @@
-use Rattle.std.specs.Prelude.{◌≡◌, ℕ, List, Some, filter, map, max}
-use Rattle.std.proofs.Common.{◌∙◌, ap, refl, sym}
-use Rattle.office_commands.specs.declared.commands.Command.TheVariants.{Cancel}
-use Rattle.ocds_release.specs.TenderStatuses.{state_cancelled, tender_status_of}
-use Rattle.ocds_release.specs.declared.event.Event.{Event}
+use Rattle.office_plans.proofs.Names.{◌≡◌, ℕ, List, Some, filter, map, max, ◌∙◌, ap, refl, sym, Cancel, state_cancelled, tender_status_of, Event, TenderStatus, award_key, AwardRow, LotRow, cancel_event, lot_name, given_by, is_ended_award, is_open_lot, CancelRows}
 use Rattle.ocds_release.specs.declared.event.Event.TheVariants as events
-use Rattle.ocds_release.specs.declared.tender_status.TenderStatus.{TenderStatus}
-use Rattle.office_base.specs.Tables.{award_key}
-use Rattle.office_base.specs.declared.records.AwardRow.{AwardRow}
-use Rattle.office_base.specs.declared.records.LotRow.{LotRow}
-use Rattle.office_publications.specs.NoticeEvents.{cancel_event, lot_name}
-use Rattle.office_plans.specs.Asking.{given_by}
 use Rattle.office_plans.proofs.Maybe.{if_ok}
 use Rattle.office_plans.proofs.commands.cancel.release.Goals as goal
-use Rattle.tender_core.specs.Rules.Cancel.{is_ended_award, is_open_lot}
-use Rattle.tender_core.specs.declared.cancel.CancelRows.{CancelRows}
 
 pub returns-clause-release : goal.returns-clause-release
 returns-clause-release c =

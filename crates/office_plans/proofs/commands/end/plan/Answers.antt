@@ -1,17 +1,8 @@
-use Rattle.std.specs.Prelude.{ℕ}
-use Rattle.std.proofs.Common.{◌∙◌, ap, refl, sym}
-use Rattle.award_core.specs.Rules.End.{end_lacks, end_puts, end_rows, end_tests}
-use Rattle.award_core.specs.declared.end.EndRows.{EndRows}
-use Rattle.office_commands.specs.declared.commands.Command.TheVariants.{End}
-use Rattle.office_commands.specs.declared.contract.How.{How}
-use Rattle.office_base.specs.Tables.{Tables, contract_at}
+use Rattle.office_plans.proofs.Names.{ℕ, ◌∙◌, ap, refl, sym, end_lacks, end_puts, end_rows, end_tests, EndRows, End, How, Tables, contract_at, given_by, option_copied, Asking}
 use Rattle.office_plans.proofs.Numbered.{numbered_contract}
 use Rattle.office_plans.proofs.Publishing.{IsTested, not_planned, puts_on, refused_on, two_looks, whole_on}
 use Rattle.office_plans.proofs.Telling.{fault_told, none_to_tell, refusal_told}
 use Rattle.office_plans.proofs.commands.end.plan.Goals as goal
-use Rattle.office_plans.specs.Asking.{given_by}
-use Rattle.std.specs.Option.{option_copied}
-use Rattle.tender_core.specs.declared.asking.Asking.{Asking}
 
 -- The tests of the rule are the tests on the loaded rows.
 rule : (asking : Asking) (contract : ℕ) (how : How) → IsTested asking (End contract how) (λ (s : Tables). end_rows s contract) (λ (rows : EndRows). rows.clock)

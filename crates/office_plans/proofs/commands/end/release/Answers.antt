@@ -1,12 +1,4 @@
-use Rattle.std.specs.Prelude.{◌≡◌, Option, Some, max, option_map}
-use Rattle.std.proofs.Common.{◌∙◌, ap, sym}
-use Rattle.office_commands.specs.declared.commands.Command.TheVariants.{End}
-use Rattle.award_core.specs.declared.end.EndRows.{EndRows}
-use Rattle.office_base.specs.Parents.{notice_of_contract}
-use Rattle.office_base.specs.Tables.{contract_at}
-use Rattle.office_base.specs.declared.records.ContractRow.{ContractRow}
-use Rattle.office_publications.specs.ContractEvents.{end_event}
-use Rattle.office_plans.specs.Asking.{given_by}
+use Rattle.office_plans.proofs.Names.{◌≡◌, Option, Some, max, option_map, ◌∙◌, ap, sym, End, EndRows, notice_of_contract, contract_at, ContractRow, end_event, given_by}
 use Rattle.office_plans.proofs.Maybe.{if_ok}
 use Rattle.office_plans.proofs.commands.end.release.Goals as goal
 

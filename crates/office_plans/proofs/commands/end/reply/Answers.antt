@@ -1,11 +1,4 @@
-use Rattle.std.specs.Prelude.{max}
-use Rattle.std.proofs.Common.{◌∙◌, ap, sym}
-use Rattle.office_commands.specs.declared.commands.Command.TheVariants.{End}
-use Rattle.award_core.specs.declared.end.EndRows.{EndRows}
-use Rattle.office_machine.specs.OfficeMeans.{office_readings}
-use Rattle.office_machine.specs.Outstanding.{left_by_end}
-use Rattle.office_plans.specs.Asking.{given_by}
-use Rattle.office_plans.specs.Replies.{reply_text}
+use Rattle.office_plans.proofs.Names.{max, ◌∙◌, ap, sym, End, EndRows, office_readings, left_by_end, given_by, reply_text}
 use Rattle.office_plans.proofs.OnContracts.{told_alike}
 use Rattle.office_plans.proofs.commands.end.reply.Goals as goal
 

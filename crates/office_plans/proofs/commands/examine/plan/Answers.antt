@@ -1,16 +1,7 @@
-use Rattle.std.specs.Prelude.{Bool, Option, ℕ}
-use Rattle.std.proofs.Common.{◌∙◌, ap, refl}
-use Rattle.award_core.specs.Rules.Examine.{examine_lacks, examine_puts, examine_rows, examine_tests}
-use Rattle.award_core.specs.declared.examine.ExamineRows.{ExamineRows}
-use Rattle.office_commands.specs.declared.commands.Command.TheVariants.{Examine}
-use Rattle.office_base.specs.Tables.{Tables}
-use Rattle.office_machine.specs.Replies.{Examined}
+use Rattle.office_plans.proofs.Names.{Bool, Option, ℕ, ◌∙◌, ap, refl, examine_lacks, examine_puts, examine_rows, examine_tests, ExamineRows, Examine, Tables, Examined, given_by, reply_text, Asking}
 use Rattle.office_plans.proofs.Publishing.{IsTested, not_planned, puts_on, refused_on, time_is, whole_on}
 use Rattle.office_plans.proofs.Telling.{fault_told, none_to_tell, refusal_told}
 use Rattle.office_plans.proofs.commands.examine.plan.Goals as goal
-use Rattle.office_plans.specs.Asking.{given_by}
-use Rattle.office_plans.specs.Replies.{reply_text}
-use Rattle.tender_core.specs.declared.asking.Asking.{Asking}
 
 -- The tests of the rule are the tests on the loaded rows.
 rule : (asking : Asking) (receipt : ℕ) (responsive : Bool) (quality : Option ℕ) → IsTested asking (Examine receipt responsive quality) (λ (s : Tables). examine_rows s receipt) (λ (rows : ExamineRows). rows.clock)

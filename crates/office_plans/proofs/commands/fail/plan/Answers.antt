@@ -1,16 +1,8 @@
-use Rattle.std.specs.Prelude.{ℕ}
-use Rattle.std.proofs.Common.{◌∙◌, ap, refl, sym}
-use Rattle.award_core.specs.Rules.Fail.{fail_lacks, fail_puts, fail_rows, fail_tests}
-use Rattle.award_core.specs.declared.fail.FailRows.{FailRows}
-use Rattle.office_commands.specs.declared.commands.Command.TheVariants.{Fail}
-use Rattle.office_base.specs.Tables.{Tables, award_at}
+use Rattle.office_plans.proofs.Names.{ℕ, ◌∙◌, ap, refl, sym, fail_lacks, fail_puts, fail_rows, fail_tests, FailRows, Fail, Tables, award_at, given_by, option_copied, Asking}
 use Rattle.office_plans.proofs.Numbered.{numbered_award}
 use Rattle.office_plans.proofs.Publishing.{IsTested, not_planned, puts_on, refused_on, two_looks, whole_on}
 use Rattle.office_plans.proofs.Telling.{fault_told, none_to_tell, refusal_told}
 use Rattle.office_plans.proofs.commands.fail.plan.Goals as goal
-use Rattle.office_plans.specs.Asking.{given_by}
-use Rattle.std.specs.Option.{option_copied}
-use Rattle.tender_core.specs.declared.asking.Asking.{Asking}
 
 -- The tests of the rule are the tests on the loaded rows.
 rule : (asking : Asking) (award : ℕ) → IsTested asking (Fail award) (λ (s : Tables). fail_rows s award) (λ (rows : FailRows). rows.clock)

@@ -1,12 +1,4 @@
-use Rattle.std.specs.Prelude.{◌≡◌, Option, Some, max, option_map}
-use Rattle.std.proofs.Common.{◌∙◌, ap, sym}
-use Rattle.office_commands.specs.declared.commands.Command.TheVariants.{Fail}
-use Rattle.award_core.specs.declared.fail.FailRows.{FailRows}
-use Rattle.office_base.specs.Parents.{notice_of_award}
-use Rattle.office_base.specs.Tables.{award_at}
-use Rattle.office_base.specs.declared.records.AwardRow.{AwardRow}
-use Rattle.office_publications.specs.AwardEvents.{fail_event}
-use Rattle.office_plans.specs.Asking.{given_by}
+use Rattle.office_plans.proofs.Names.{◌≡◌, Option, Some, max, option_map, ◌∙◌, ap, sym, Fail, FailRows, notice_of_award, award_at, AwardRow, fail_event, given_by}
 use Rattle.office_plans.proofs.Maybe.{if_ok}
 use Rattle.office_plans.proofs.commands.fail.release.Goals as goal
 

@@ -1,8 +1,4 @@
-use Rattle.std.specs.Prelude.{◌≡◌, ℕ, max}
-use Rattle.std.proofs.Common.{◌∙◌, ap}
-use Rattle.award_core.specs.declared.fail.FailRows.{FailRows}
-use Rattle.office_machine.specs.Replies.{Failed}
-use Rattle.office_plans.specs.Replies.{reply_text}
+use Rattle.office_plans.proofs.Names.{◌≡◌, ℕ, max, ◌∙◌, ap, FailRows, Failed, reply_text}
 use Rattle.office_plans.proofs.Maybe.{if_ok}
 use Rattle.office_plans.proofs.commands.fail.reply.Goals as goal
 

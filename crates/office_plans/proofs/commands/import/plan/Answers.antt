@@ -1,30 +1,8 @@
-use Rattle.std.specs.Prelude.{◌≡◌, ℕ, Bool, true, false, not, ◌&&◌, ◌||◌, List, [], ◌∷◌, Option, Some, None, is_some, length, map, option_map}
-use Rattle.std.specs.List.{list_any}
-use Rattle.std.proofs.Common.{◌∙◌, ap, refl, sym}
-use Rattle.office_commands.specs.declared.commands.Command.TheVariants.{Import}
-use Rattle.office_commands.specs.declared.budget.BudgetRow.{BudgetRow}
-use Rattle.office_base.specs.RowLaws.{RowsAreKept}
-use Rattle.office_base.specs.Standings.{columns_at, columns_of_row, standing_key, standings}
-use Rattle.office_base.specs.Tables.{Tables, line_at, lots_of_line}
-use Rattle.office_base.specs.declared.records.LineRow.{LineRow}
-use Rattle.office_base.specs.declared.standing.Standing.{Standing}
-use Rattle.office_values.specs.Ids.{id_cmp}
-use Rattle.tender_core.specs.Agreeing.{AgreeOnRows, ImportsAgree}
-use Rattle.tender_core.specs.declared.asking.Asking.{Asking}
-use Rattle.office_machine.specs.Lacking.{is_lacking}
-use Rattle.office_machine.specs.Machine.{time_of}
-use Rattle.office_machine.specs.Orphans.{names_lost_line}
-use Rattle.office_machine.specs.References.{has_rows}
-use Rattle.office_machine.specs.Replies.{Imported}
-use Rattle.office_plans.specs.Asking.{given_by}
-use Rattle.office_plans.specs.Named.{import_named, is_of_lost_line, line_of_row, standings_named}
-use Rattle.office_plans.specs.Replies.{reply_text}
+use Rattle.office_plans.proofs.Names.{◌≡◌, ℕ, Bool, true, false, not, ◌&&◌, ◌||◌, List, [], ◌∷◌, Option, Some, None, is_some, length, map, option_map, list_any, ◌∙◌, ap, refl, sym, Import, BudgetRow, RowsAreKept, columns_at, columns_of_row, standing_key, standings, Tables, line_at, lots_of_line, LineRow, Standing, id_cmp, AgreeOnRows, ImportsAgree, Asking, is_lacking, time_of, names_lost_line, has_rows, Imported, given_by, import_named, is_of_lost_line, line_of_row, standings_named, reply_text, import_lacks, import_puts, import_rows, import_tests, ImportRows}
 use Rattle.office_plans.proofs.Decided.{allows, makes, refuses, told_refused, wholes}
 use Rattle.office_plans.proofs.NamedStandings.{standings_agree}
 use Rattle.office_plans.proofs.Publishing.{IsTested, puts_on, refused_on, time_is}
 use Rattle.office_plans.proofs.commands.import.plan.Goals as goal
-use Rattle.tender_core.specs.Rules.Import.{import_lacks, import_puts, import_rows, import_tests}
-use Rattle.tender_core.specs.declared.import.ImportRows.{ImportRows}
 
 -- The tests of the rule are the tests on the loaded rows.
 rule : RowsAreKept id_cmp standing_key → ImportsAgree → (asking : Asking) (batch : List ℕ) (rows : List BudgetRow)

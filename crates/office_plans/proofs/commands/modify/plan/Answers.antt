@@ -1,26 +1,7 @@
-use Rattle.std.specs.Prelude.{◌≡◌, ◌+◌, ◌||◌, List, Option, Some, None, false, is_some, ℕ, slice_get}
-use Rattle.std.proofs.Common.{◌∙◌, ap, refl, sym}
-use Rattle.office_commands.specs.declared.command.Caller.{Caller}
-use Rattle.office_commands.specs.declared.commands.Command.TheVariants.{Modify}
-use Rattle.office_base.specs.Rules.{first_of}
-use Rattle.office_base.specs.Tables.{Tables, envelope_at}
-use Rattle.office_base.specs.declared.puts.Put.{Put}
-use Rattle.office_base.specs.declared.puts.Put.TheVariants.{Envelope}
-use Rattle.office_base.specs.declared.records.EnvelopeRow.{EnvelopeRow}
-use Rattle.office_machine.specs.Lacking.{is_lacking}
-use Rattle.office_machine.specs.OfficeMeans.{office_readings}
-use Rattle.office_machine.specs.Orphans.{is_torn, receipt_is_taken}
-use Rattle.office_machine.specs.References.{OfReceipt, is_named}
-use Rattle.office_machine.specs.Replies.{modify_reply, received_reply}
+use Rattle.office_plans.proofs.Names.{◌≡◌, ◌+◌, ◌||◌, List, Option, Some, None, false, is_some, ℕ, slice_get, ◌∙◌, ap, refl, sym, Caller, Modify, first_of, Tables, envelope_at, Put, Envelope, EnvelopeRow, is_lacking, office_readings, is_torn, receipt_is_taken, OfReceipt, is_named, modify_reply, received_reply, given_by, reply_text, sha256, modify_lacks, modify_puts, modify_rows, modify_tests, replacing, Asking, ModifyRows}
 use Rattle.office_plans.proofs.Publishing.{IsTested, grouped, not_planned, on_rows, puts_on, refused_on, two_looks}
 use Rattle.office_plans.proofs.Telling.{fault_told, none_to_tell, refusal_told}
 use Rattle.office_plans.proofs.commands.modify.plan.Goals as goal
-use Rattle.office_plans.specs.Asking.{given_by}
-use Rattle.office_plans.specs.Replies.{reply_text}
-use Rattle.sha2.specs.Sha256.{sha256}
-use Rattle.tender_core.specs.Rules.Modify.{modify_lacks, modify_puts, modify_rows, modify_tests, replacing}
-use Rattle.tender_core.specs.declared.asking.Asking.{Asking}
-use Rattle.tender_core.specs.declared.modify.ModifyRows.{ModifyRows}
 
 -- The tests of the rule are the tests on the loaded rows.
 rule : (asking : Asking) (receipt : ℕ) (sealed : List ℕ) → IsTested asking (Modify receipt sealed) (λ (s : Tables). modify_rows s receipt) (λ (rows : ModifyRows). rows.clock)

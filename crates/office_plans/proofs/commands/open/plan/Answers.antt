@@ -1,20 +1,9 @@
-use Rattle.std.specs.Prelude.{List, ℕ}
-use Rattle.std.proofs.Common.{◌∙◌, ap, refl, sym}
-use Rattle.office_commands.specs.declared.commands.Command.TheVariants.{Open}
-use Rattle.office_base.specs.Tables.{Tables, notice_at}
-use Rattle.office_machine.specs.Machine.{time_of}
-use Rattle.office_machine.specs.OfficeMeans.{office_readings}
-use Rattle.office_machine.specs.Rule.{sealed_tenders}
+use Rattle.office_plans.proofs.Names.{List, ℕ, ◌∙◌, ap, refl, sym, Open, Tables, notice_at, time_of, office_readings, sealed_tenders, given_by, open_rows, open_tests, opened_with, Asking, OpenRows, OpenedTender}
 use Rattle.office_plans.proofs.Numbered.{numbered_notice}
 use Rattle.office_plans.proofs.Publishing.{IsTested, both_looks, four_looks, not_planned, puts_on, refused_on}
 use Rattle.office_plans.proofs.ReadTenders.{tenders_are}
 use Rattle.office_plans.proofs.Telling.{fault_told, none_to_tell, refusal_told}
 use Rattle.office_plans.proofs.commands.open.plan.Goals as goal
-use Rattle.office_plans.specs.Asking.{given_by}
-use Rattle.tender_core.specs.Rules.Open.{open_rows, open_tests, opened_with}
-use Rattle.tender_core.specs.declared.asking.Asking.{Asking}
-use Rattle.tender_core.specs.declared.opening.OpenRows.{OpenRows}
-use Rattle.tender_core.specs.declared.opening.OpenedTender.{OpenedTender}
 
 -- The tests of the rule are the tests on the loaded rows.
 rule : (asking : Asking) (notice : List ℕ) → IsTested asking (Open notice) (λ (s : Tables). open_rows s notice) (λ (rows : OpenRows). rows.clock)

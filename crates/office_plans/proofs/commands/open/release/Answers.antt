@@ -1,16 +1,8 @@
-use Rattle.std.specs.Prelude.{◌≡◌, List, Some, filter, map, max}
-use Rattle.std.proofs.Common.{◌∙◌, ap, refl, sym}
-use Rattle.office_commands.specs.declared.commands.Command.TheVariants.{Open}
-use Rattle.ocds_release.specs.Tenderers.{Tenderer, tenderer_shown}
-use Rattle.ocds_release.specs.declared.event.Event.{Event}
+use Rattle.office_plans.proofs.Names.{◌≡◌, List, Some, filter, map, max, ◌∙◌, ap, refl, sym, Open, tenderer_shown, Event, envelopes_of_notice, TendererRow, has_sealed, open_event, given_by, OpenRows}
+use Rattle.ocds_release.specs.Tenderers.{Tenderer}
 use Rattle.ocds_release.specs.declared.event.Event.TheVariants as events
-use Rattle.office_base.specs.Tables.{envelopes_of_notice}
-use Rattle.office_base.specs.declared.records.TendererRow.{TendererRow}
-use Rattle.office_publications.specs.NoticeEvents.{has_sealed, open_event}
-use Rattle.office_plans.specs.Asking.{given_by}
 use Rattle.office_plans.proofs.Maybe.{if_ok}
 use Rattle.office_plans.proofs.commands.open.release.Goals as goal
-use Rattle.tender_core.specs.declared.opening.OpenRows.{OpenRows}
 
 pub returns-clause-looks : goal.returns-clause-looks
 returns-clause-looks g c =

@@ -1,14 +1,6 @@
-use Rattle.std.specs.Prelude.{◌≡◌, ℕ, List, length, max}
-use Rattle.std.proofs.Common.{◌∙◌, ap}
-use Rattle.std.proofs.lemmas.List.{length-map}
-use Rattle.office_machine.specs.Replies.{OpenedAll}
-use Rattle.office_machine.specs.Rule.{sealed_of_notice}
-use Rattle.office_plans.specs.Opening.{tender_read}
-use Rattle.office_plans.specs.Replies.{reply_text}
+use Rattle.office_plans.proofs.Names.{◌≡◌, ℕ, List, length, max, ◌∙◌, ap, length-map, OpenedAll, sealed_of_notice, tender_read, reply_text, OpenRows, OpenedTender}
 use Rattle.office_plans.proofs.Maybe.{if_ok}
 use Rattle.office_plans.proofs.commands.open.reply.Goals as goal
-use Rattle.tender_core.specs.declared.opening.OpenRows.{OpenRows}
-use Rattle.tender_core.specs.declared.opening.OpenedTender.{OpenedTender}
 
 -- Replies are equal if their parts are equal.
 told_alike : (notice : List ℕ) (count count' release release' t t' : ℕ) → count ≡ count' → release ≡ release' → t ≡ t'

@@ -1,16 +1,8 @@
-use Rattle.std.specs.Prelude.{List, ℕ}
-use Rattle.std.proofs.Common.{◌∙◌, ap, refl, sym}
-use Rattle.award_core.specs.Rules.Pay.{pay_lacks, pay_puts, pay_rows, pay_tests}
-use Rattle.award_core.specs.declared.pay.PayRows.{PayRows}
-use Rattle.office_commands.specs.declared.commands.Command.TheVariants.{Pay}
-use Rattle.office_base.specs.Tables.{Tables, contract_at}
+use Rattle.office_plans.proofs.Names.{List, ℕ, ◌∙◌, ap, refl, sym, pay_lacks, pay_puts, pay_rows, pay_tests, PayRows, Pay, Tables, contract_at, given_by, option_copied, Asking}
 use Rattle.office_plans.proofs.Numbered.{numbered_contract}
 use Rattle.office_plans.proofs.Publishing.{IsTested, not_planned, puts_on, refused_on, three_looks, whole_on}
 use Rattle.office_plans.proofs.Telling.{fault_told, none_to_tell, refusal_told}
 use Rattle.office_plans.proofs.commands.pay.plan.Goals as goal
-use Rattle.office_plans.specs.Asking.{given_by}
-use Rattle.std.specs.Option.{option_copied}
-use Rattle.tender_core.specs.declared.asking.Asking.{Asking}
 
 -- The tests of the rule are the tests on the loaded rows.
 rule : (asking : Asking) (contract : ℕ) (entry : List ℕ) (amount : ℕ) → IsTested asking (Pay contract entry amount) (λ (s : Tables). pay_rows s contract) (λ (rows : PayRows). rows.clock)

@@ -1,17 +1,5 @@
-use Rattle.std.specs.Prelude.{◌≡◌, Option, Some, option_map, max}
-use Rattle.std.proofs.Common.{◌∙◌, ap, sym}
-use Rattle.office_commands.specs.declared.commands.Command.TheVariants.{Pay}
-use Rattle.office_base.specs.Parents.{notice_of_contract}
-use Rattle.office_base.specs.Tables.{contract_at, tenderer_at}
-use Rattle.office_base.specs.declared.records.ContractRow.{ContractRow}
-use Rattle.office_base.specs.declared.records.TendererRow.{TendererRow}
-use Rattle.award_core.specs.declared.pay.PayRows.{PayRows}
-use Rattle.ocds_release.specs.declared.event.Event.{Event}
+use Rattle.office_plans.proofs.Names.{◌≡◌, Option, Some, option_map, max, ◌∙◌, ap, sym, Pay, notice_of_contract, contract_at, tenderer_at, ContractRow, TendererRow, PayRows, Event, Party, name_in, pay_event, given_by}
 use Rattle.ocds_release.specs.declared.event.Event.TheVariants as events
-use Rattle.ocds_release.specs.declared.event.Party.{Party}
-use Rattle.office_publications.specs.AwardEvents.{name_in}
-use Rattle.office_publications.specs.ContractEvents.{pay_event}
-use Rattle.office_plans.specs.Asking.{given_by}
 use Rattle.office_plans.proofs.Maybe.{if_ok}
 use Rattle.office_plans.proofs.commands.pay.release.Goals as goal
 

@@ -1,11 +1,4 @@
-use Rattle.std.specs.Prelude.{max}
-use Rattle.std.proofs.Common.{◌∙◌, ap, sym}
-use Rattle.office_commands.specs.declared.commands.Command.TheVariants.{Pay}
-use Rattle.award_core.specs.declared.pay.PayRows.{PayRows}
-use Rattle.office_machine.specs.OfficeMeans.{office_readings}
-use Rattle.office_machine.specs.Outstanding.{left_by_payment}
-use Rattle.office_plans.specs.Asking.{given_by}
-use Rattle.office_plans.specs.Replies.{reply_text}
+use Rattle.office_plans.proofs.Names.{max, ◌∙◌, ap, sym, Pay, PayRows, office_readings, left_by_payment, given_by, reply_text}
 use Rattle.office_plans.proofs.OnContracts.{told_alike}
 use Rattle.office_plans.proofs.commands.pay.reply.Goals as goal
 

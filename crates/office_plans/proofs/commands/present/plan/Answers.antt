@@ -1,25 +1,8 @@
-use Rattle.std.specs.Prelude.{List, Option, is_some, ℕ, ◌+◌, ◌||◌, slice_get}
-use Rattle.std.proofs.Common.{◌∙◌, ap, refl, sym}
-use Rattle.office_commands.specs.declared.commands.Command.TheVariants.{Present}
-use Rattle.office_commands.specs.declared.tender.NamedSecurity.{NamedSecurity}
-use Rattle.office_base.specs.Rows.{holds_of}
-use Rattle.office_base.specs.Transitions.{is_in_time}
-use Rattle.office_base.specs.Tables.{Tables, envelope_at}
-use Rattle.office_base.specs.declared.puts.Put.{Put}
-use Rattle.office_machine.specs.Machine.{time_of}
-use Rattle.office_machine.specs.References.{OfReceipt, is_named}
-use Rattle.office_machine.specs.Replies.{received_reply}
+use Rattle.office_plans.proofs.Names.{List, Option, is_some, ℕ, ◌+◌, ◌||◌, slice_get, ◌∙◌, ap, refl, sym, Present, NamedSecurity, holds_of, is_in_time, Tables, envelope_at, Put, time_of, OfReceipt, is_named, received_reply, given_by, own_rows, reply_text, sha256, present_puts, present_tests, received, Asking, PresentRows}
 use Rattle.office_plans.proofs.OwnTenders.{own_tests}
 use Rattle.office_plans.proofs.Publishing.{IsTested, not_planned, on_rows, puts_on, refused_on, two_looks}
 use Rattle.office_plans.proofs.Telling.{fault_told, none_to_tell, refusal_told}
 use Rattle.office_plans.proofs.commands.present.plan.Goals as goal
-use Rattle.office_plans.specs.Asking.{given_by}
-use Rattle.office_plans.specs.OwnTenders.{own_rows}
-use Rattle.office_plans.specs.Replies.{reply_text}
-use Rattle.sha2.specs.Sha256.{sha256}
-use Rattle.tender_core.specs.Rules.Present.{present_puts, present_tests, received}
-use Rattle.tender_core.specs.declared.asking.Asking.{Asking}
-use Rattle.tender_core.specs.declared.present.PresentRows.{PresentRows}
 
 -- The tests of the rule are the tests on the loaded rows.
 rule : (asking : Asking) (notice : List ℕ) (lot : List ℕ) (security : Option NamedSecurity) (sealed : List ℕ) → IsTested asking (Present notice lot security sealed) (λ (s : Tables). own_rows asking.caller.now s notice lot) (λ (rows : PresentRows). rows.clock)

@@ -1,6 +1,4 @@
-use Rattle.std.proofs.Common.{◌≡◌, map, drop}
-use Rattle.office_base.specs.Shelves.{Looks}
-use Rattle.office_plans.specs.Named.{line_of_new, with_lines, lines_named}
+use Rattle.office_plans.proofs.Names.{◌≡◌, map, drop, Looks, line_of_new, with_lines, lines_named}
 use Rattle.office_plans.proofs.commands.publish.load_lines.Given as goal
 
 abbrev pub invariant-loop-lot : goal.invariant-loop-lot

@@ -1,23 +1,8 @@
-use Rattle.std.specs.Prelude.{◌≡◌, List, map, ℕ}
-use Rattle.std.proofs.Common.{◌∙◌, ap, refl, subst, sym}
-use Rattle.office_commands.specs.declared.commands.Command.TheVariants.{Publish}
-use Rattle.office_commands.specs.declared.lot.NewLot.{NewLot}
-use Rattle.office_commands.specs.declared.notice.NewNotice.{NewNotice}
-use Rattle.office_base.specs.RowLaws.{RowsAreKept}
-use Rattle.office_base.specs.Shelves.{Looks, Meaning}
-use Rattle.office_base.specs.Tables.{Tables, line_key}
-use Rattle.office_machine.specs.Machine.{time_of}
+use Rattle.office_plans.proofs.Names.{◌≡◌, List, map, ℕ, ◌∙◌, ap, refl, subst, sym, Publish, NewLot, NewNotice, RowsAreKept, Looks, Meaning, Tables, line_key, time_of, given_by, line_of_new, lines_named, publish_named, id_cmp, PublishesAgree, publish_puts, publish_rows, publish_tests, Asking, PublishRows}
 use Rattle.office_plans.proofs.NamedLines.{lines_agree}
 use Rattle.office_plans.proofs.Numbered.{numbered_notice}
 use Rattle.office_plans.proofs.Publishing.{IsTested, not_planned, puts_on, refused_on, three_looks}
 use Rattle.office_plans.proofs.commands.publish.plan.Goals as goal
-use Rattle.office_plans.specs.Asking.{given_by}
-use Rattle.office_plans.specs.Named.{line_of_new, lines_named, publish_named}
-use Rattle.office_values.specs.Ids.{id_cmp}
-use Rattle.tender_core.specs.Agreeing.{PublishesAgree}
-use Rattle.tender_core.specs.Rules.Publish.{publish_puts, publish_rows, publish_tests}
-use Rattle.tender_core.specs.declared.asking.Asking.{Asking}
-use Rattle.tender_core.specs.declared.publish.PublishRows.{PublishRows}
 
 -- The tests of the rule are the tests on the loaded rows.
 rule : RowsAreKept id_cmp line_key → PublishesAgree → (asking : Asking) (notice : List ℕ) (content : NewNotice) → IsTested asking (Publish notice content) (λ (s : Tables). publish_named s notice content.lots) (λ (rows : PublishRows). rows.clock)

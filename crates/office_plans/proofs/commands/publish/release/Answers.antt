@@ -1,14 +1,7 @@
-use Rattle.std.specs.Prelude.{◌≡◌, ℕ, List, Some, max}
-use Rattle.std.proofs.Common.{◌∙◌, ap, refl, sym}
-use Rattle.office_commands.specs.declared.commands.Command.TheVariants.{Publish}
-use Rattle.office_commands.specs.declared.lot.NewLot.{NewLot}
-use Rattle.office_commands.specs.declared.notice.NewNotice.{NewNotice}
-use Rattle.ocds_release.specs.declared.event.Event.{Event}
+use Rattle.office_plans.proofs.Names.{◌≡◌, ℕ, List, Some, max, ◌∙◌, ap, refl, sym, Publish, NewLot, NewNotice, Event, given_by, PublishRows}
 use Rattle.ocds_release.specs.declared.event.Event.TheVariants as events
-use Rattle.office_plans.specs.Asking.{given_by}
 use Rattle.office_plans.proofs.Maybe.{if_ok}
 use Rattle.office_plans.proofs.commands.publish.release.Goals as goal
-use Rattle.tender_core.specs.declared.publish.PublishRows.{PublishRows}
 
 pub returns-clause-release : goal.returns-clause-release
 returns-clause-release c =

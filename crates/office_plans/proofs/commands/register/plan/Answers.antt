@@ -1,16 +1,7 @@
-use Rattle.std.specs.Prelude.{List, ℕ}
-use Rattle.std.proofs.Common.{◌∙◌, ap, refl}
-use Rattle.office_commands.specs.declared.commands.Command.TheVariants.{Register}
-use Rattle.office_base.specs.Tables.{Tables}
-use Rattle.office_machine.specs.Replies.{Enrolled}
+use Rattle.office_plans.proofs.Names.{List, ℕ, ◌∙◌, ap, refl, Register, Tables, Enrolled, given_by, reply_text, register_puts, register_rows, register_tests, Asking, RegisterRows}
 use Rattle.office_plans.proofs.Publishing.{IsTested, not_planned, puts_on, refused_on, time_is}
 use Rattle.office_plans.proofs.Telling.{fault_told, none_to_tell, refusal_told}
 use Rattle.office_plans.proofs.commands.register.plan.Goals as goal
-use Rattle.office_plans.specs.Asking.{given_by}
-use Rattle.office_plans.specs.Replies.{reply_text}
-use Rattle.tender_core.specs.Rules.Register.{register_puts, register_rows, register_tests}
-use Rattle.tender_core.specs.declared.asking.Asking.{Asking}
-use Rattle.tender_core.specs.declared.register.RegisterRows.{RegisterRows}
 
 -- The tests of the rule are the tests on the loaded rows.
 rule : (asking : Asking) (tenderer : List ℕ) (name : List ℕ) (address : List ℕ) (key : List ℕ) → IsTested asking (Register tenderer name address key) (λ (s : Tables). register_rows s tenderer) (λ (rows : RegisterRows). rows.clock)

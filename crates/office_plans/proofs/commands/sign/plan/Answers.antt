@@ -1,21 +1,8 @@
-use Rattle.std.specs.Prelude.{Bool, Option, true, false, ℕ, ◌≡◌, ◌||◌}
-use Rattle.std.proofs.Common.{◌∙◌, ap, refl, sym}
-use Rattle.award_core.specs.Rules.Sign.{sign_lacks, sign_puts, sign_rows, sign_tests}
-use Rattle.award_core.specs.declared.sign.SignRows.{SignRows}
-use Rattle.office_commands.specs.declared.commands.Command.TheVariants.{Sign}
-use Rattle.office_commands.specs.declared.tender.NamedSecurity.{NamedSecurity}
-use Rattle.office_base.specs.Rows.{holds_of}
-use Rattle.office_base.specs.Parents.{envelope_of_award, lot_of_award}
-use Rattle.office_base.specs.Tables.{Tables, award_at}
-use Rattle.office_machine.specs.Lacking.{is_lacking}
-use Rattle.office_machine.specs.Orphans.{contract_is_taken, lacks_its_security, reserves_another}
+use Rattle.office_plans.proofs.Names.{Bool, Option, true, false, ℕ, ◌≡◌, ◌||◌, ◌∙◌, ap, refl, sym, sign_lacks, sign_puts, sign_rows, sign_tests, SignRows, Sign, NamedSecurity, holds_of, envelope_of_award, lot_of_award, Tables, award_at, is_lacking, contract_is_taken, lacks_its_security, reserves_another, given_by, option_copied, Asking}
 use Rattle.office_plans.proofs.Numbered.{numbered_award}
 use Rattle.office_plans.proofs.Publishing.{IsTested, four_looks, not_planned, puts_on, refused_on}
 use Rattle.office_plans.proofs.Telling.{fault_told, none_to_tell, refusal_told}
 use Rattle.office_plans.proofs.commands.sign.plan.Goals as goal
-use Rattle.office_plans.specs.Asking.{given_by}
-use Rattle.std.specs.Option.{option_copied}
-use Rattle.tender_core.specs.declared.asking.Asking.{Asking}
 
 -- The tests of the rule are the tests on the loaded rows.
 rule : (asking : Asking) (award : ℕ) (security : Option NamedSecurity) → IsTested asking (Sign award security) (λ (s : Tables). sign_rows s award) (λ (rows : SignRows). rows.clock)

@@ -1,18 +1,5 @@
-use Rattle.std.specs.Prelude.{◌≡◌, List, Option, Some, map, max, option_map}
-use Rattle.std.proofs.Common.{◌∙◌, ap, sym}
-use Rattle.office_commands.specs.declared.commands.Command.TheVariants.{Sign}
-use Rattle.award_core.specs.declared.sign.SignRows.{SignRows}
-use Rattle.ocds_release.specs.TenderStatuses.{state_with, tender_status_of}
-use Rattle.ocds_release.specs.declared.event.Event.{Event}
+use Rattle.office_plans.proofs.Names.{◌≡◌, List, Option, Some, map, max, option_map, ◌∙◌, ap, sym, Sign, SignRows, state_with, tender_status_of, Event, TenderStatus, notice_of_award, award_at, AwardRow, LotRow, Contracted, sign_event, status_with, given_by}
 use Rattle.ocds_release.specs.declared.event.Event.TheVariants as events
-use Rattle.ocds_release.specs.declared.tender_status.TenderStatus.{TenderStatus}
-use Rattle.office_base.specs.Parents.{notice_of_award}
-use Rattle.office_base.specs.Tables.{award_at}
-use Rattle.office_base.specs.declared.records.AwardRow.{AwardRow}
-use Rattle.office_base.specs.declared.records.LotRow.{LotRow}
-use Rattle.office_base.specs.declared.records.LotState.TheVariants.{Contracted}
-use Rattle.office_publications.specs.AwardEvents.{sign_event, status_with}
-use Rattle.office_plans.specs.Asking.{given_by}
 use Rattle.office_plans.proofs.Maybe.{if_ok}
 use Rattle.office_plans.proofs.commands.sign.release.Goals as goal
 

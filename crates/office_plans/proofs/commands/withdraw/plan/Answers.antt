@@ -1,20 +1,7 @@
-use Rattle.std.specs.Prelude.{false, ℕ, ◌≡◌, ◌||◌}
-use Rattle.std.proofs.Common.{◌∙◌, ap, refl, sym}
-use Rattle.office_commands.specs.declared.commands.Command.TheVariants.{Withdraw}
-use Rattle.office_base.specs.Rows.{holds_of}
-use Rattle.office_base.specs.Transitions.{is_late}
-use Rattle.office_base.specs.Tables.{Tables}
-use Rattle.office_machine.specs.Lacking.{is_lacking}
-use Rattle.office_machine.specs.Orphans.{lacks_seal}
-use Rattle.office_machine.specs.Replies.{Withdrew, state_after}
+use Rattle.office_plans.proofs.Names.{false, ℕ, ◌≡◌, ◌||◌, ◌∙◌, ap, refl, sym, Withdraw, holds_of, is_late, Tables, is_lacking, lacks_seal, Withdrew, state_after, given_by, reply_text, withdraw_lacks, withdraw_puts, withdraw_rows, withdraw_tests, Asking, WithdrawRows}
 use Rattle.office_plans.proofs.Publishing.{IsTested, not_planned, on_rows, puts_on, refused_on, two_looks}
 use Rattle.office_plans.proofs.Telling.{fault_told, none_to_tell, refusal_told}
 use Rattle.office_plans.proofs.commands.withdraw.plan.Goals as goal
-use Rattle.office_plans.specs.Asking.{given_by}
-use Rattle.office_plans.specs.Replies.{reply_text}
-use Rattle.tender_core.specs.Rules.Withdraw.{withdraw_lacks, withdraw_puts, withdraw_rows, withdraw_tests}
-use Rattle.tender_core.specs.declared.asking.Asking.{Asking}
-use Rattle.tender_core.specs.declared.withdraw.WithdrawRows.{WithdrawRows}
 
 -- The tests of the rule are the tests on the loaded rows.
 rule : (asking : Asking) (receipt : ℕ) → IsTested asking (Withdraw receipt) (λ (s : Tables). withdraw_rows s receipt) (λ (rows : WithdrawRows). rows.clock)

@@ -1,7 +1,4 @@
-use Rattle.std.specs.Prelude.{◌≡◌, IfOk, ℕ, List, [], ◌∷◌, Vec, codes}
-use Rattle.std.proofs.Common.{subst}
-use Rattle.std.specs.declared.alloc.Global.{Global}
-use Rattle.office_plans.specs.Json.{text_entry, number_entry, moment_entry, object_text}
+use Rattle.office_plans.proofs.Names.{◌≡◌, IfOk, ℕ, List, [], ◌∷◌, Vec, codes, subst, Global, text_entry, number_entry, moment_entry, object_text}
 use Rattle.office_plans.proofs.commands.withdraw.withdrew_text.Goals as goal
 
 pub returns : goal.returns

@@ -1,8 +1,5 @@
-use Rattle.std.proofs.Common.{sym, subst}
-use Rattle.sqlite_store.specs.FileStore.{view}
+use Rattle.office_store.proofs.Names.{sym, subst, view, IsFaultOf, ClosingFails, IsHalfClosed}
 use Rattle.sqlite_trees.specs.View.{IsClean}
-use Rattle.office_base.specs.Faults.{IsFaultOf}
-use Rattle.office_store.specs.Reopening.{ClosingFails, IsHalfClosed}
 use Rattle.office_store.proofs.Reopening.{closing_cause, half_closed}
 use Rattle.office_store.proofs.open.SqlShelf+FileStore+D.close_files.Goals as goal
 

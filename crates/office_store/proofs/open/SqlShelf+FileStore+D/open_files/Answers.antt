@@ -1,6 +1,4 @@
-use Rattle.std.proofs.Common.{arith, inl, inr}
-use Rattle.sqlite.specs.Files.{file_state, over_files}
-use Rattle.sqlite.specs.State.{HasCleanDisk}
+use Rattle.office_store.proofs.Names.{arith, inl, inr, file_state, over_files, HasCleanDisk}
 use Rattle.office_store.proofs.Founding.{enters_bare}
 use Rattle.office_store.proofs.ReadLogs.{finds_before, leaves_before, left_before, opens_used}
 use Rattle.office_store.proofs.Reopening.{bare_schema, closed_holds, finds_in, found_now, held_shown, leaves_no_other, turned_away, usable_left}

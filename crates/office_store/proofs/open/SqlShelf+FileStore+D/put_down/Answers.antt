@@ -1,5 +1,4 @@
-use Rattle.std.proofs.Common.{subst}
-use Rattle.office_store.specs.Reopening.{IsPutDown}
+use Rattle.office_store.proofs.Names.{subst, IsPutDown}
 use Rattle.office_store.proofs.Reopening.{put_down}
 use Rattle.office_store.proofs.open.SqlShelf+FileStore+D.put_down.Goals as goal
 

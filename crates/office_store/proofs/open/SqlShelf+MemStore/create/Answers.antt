@@ -1,5 +1,4 @@
-use Rattle.sqlite.proofs.Callers.{memory_is_clean}
-use Rattle.office_base.specs.Tables.{no_tables}
+use Rattle.office_store.proofs.Names.{memory_is_clean, no_tables}
 use Rattle.office_store.proofs.Founding.{enters_empty}
 use Rattle.office_store.proofs.open.SqlShelf+MemStore.create.Goals as goal
 

@@ -1,7 +1,4 @@
-use Rattle.std.proofs.Common.{ap₂, subst, true, false}
-use Rattle.sqlite.specs.Files.{file_state}
-use Rattle.sqlite.specs.State.{HasCleanDisk}
-use Rattle.office_store.specs.Reopening.{EntersFound, OpensBlank, OpensHeld, OpensUsed}
+use Rattle.office_store.proofs.Names.{ap₂, subst, true, false, file_state, HasCleanDisk, EntersFound, OpensBlank, OpensHeld, OpensUsed}
 use Rattle.office_store.proofs.Paths.{image, seen, unchanged}
 use Rattle.office_store.proofs.path.SqlShelf+FileStore+FileFrom+S.open_from.Goals as goal
 

@@ -1,11 +1,4 @@
-use Rattle.std.proofs.Common.{ℕ, [], subst}
-use Rattle.sqlite.specs.Held.{Held, state}
-use Rattle.sqlite.specs.State.{HasCleanDisk}
-use Rattle.office_base.specs.Shelves.{Keeps}
-use Rattle.office_base.specs.Tables.{Tables, IsSorted}
-use Rattle.office_tables.specs.Steps.{ShowsTables}
-use Rattle.office_store.specs.LedgerRows.{HasTaken}
-use Rattle.office_store.specs.SqlMeaning.{sql_meaning}
+use Rattle.office_store.proofs.Names.{ℕ, [], subst, Held, state, HasCleanDisk, Keeps, Tables, IsSorted, ShowsTables, HasTaken, sql_meaning}
 use Rattle.office_store.proofs.Readying.{on_value}
 use Rattle.office_store.proofs.shelf.SqlShelf.ledger_rows.Goals as goal
 

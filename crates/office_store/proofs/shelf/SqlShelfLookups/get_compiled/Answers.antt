@@ -1,5 +1,4 @@
-use Rattle.std.proofs.Common.{◌≡◌}
-use Rattle.office_base.specs.Tables.{compiled_at}
+use Rattle.office_store.proofs.Names.{◌≡◌, compiled_at}
 use Rattle.office_store.proofs.Shelves.{told_counted}
 use Rattle.office_store.proofs.shelf.SqlShelfLookups.get_compiled.Goals as goal
 

@@ -1,5 +1,4 @@
-use Rattle.std.proofs.Common.{◌≡◌}
-use Rattle.office_base.specs.Tables.{tenderer_at}
+use Rattle.office_store.proofs.Names.{◌≡◌, tenderer_at}
 use Rattle.office_store.proofs.Shelves.{told_counted}
 use Rattle.office_store.proofs.shelf.SqlShelfLookups.get_tenderer.Goals as goal
 

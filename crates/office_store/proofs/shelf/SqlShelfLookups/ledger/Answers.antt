@@ -1,8 +1,4 @@
-use Rattle.std.specs.Prelude.{Vec}
-use Rattle.std.specs.declared.alloc.Global.{Global}
-use Rattle.std.proofs.Common.{◌≡◌}
-use Rattle.office_base.specs.declared.ledger.LedgerRow.{LedgerRow}
-use Rattle.office_base.specs.Joined.{ledger_of, LinesFit}
+use Rattle.office_store.proofs.Names.{Vec, Global, ◌≡◌, LedgerRow, ledger_of, LinesFit}
 use Rattle.office_store.proofs.Shelves.{added, not_added}
 use Rattle.office_store.proofs.shelf.SqlShelfLookups.ledger.Goals as goal
 

@@ -1,6 +1,4 @@
-use Rattle.std.proofs.Common.{◌≡◌}
-use Rattle.office_base.specs.Joined.{amounts_of_line}
-use Rattle.office_base.specs.declared.ledger.LineAmounts.{LineAmounts}
+use Rattle.office_store.proofs.Names.{◌≡◌, amounts_of_line, LineAmounts}
 use Rattle.office_store.proofs.Shelves.{looked_sorted, unanswered}
 use Rattle.office_store.proofs.shelf.SqlShelfLookups.list_amounts_of_line.Goals as goal
 

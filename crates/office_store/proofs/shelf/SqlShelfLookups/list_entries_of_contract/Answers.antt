@@ -1,5 +1,4 @@
-use Rattle.std.proofs.Common.{◌≡◌}
-use Rattle.office_base.specs.Tables.{entries_of_contract}
+use Rattle.office_store.proofs.Names.{◌≡◌, entries_of_contract}
 use Rattle.office_store.proofs.Shelves.{told_counted}
 use Rattle.office_store.proofs.shelf.SqlShelfLookups.list_entries_of_contract.Goals as goal
 

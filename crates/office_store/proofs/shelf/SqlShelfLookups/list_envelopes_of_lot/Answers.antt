@@ -1,5 +1,4 @@
-use Rattle.std.proofs.Common.{◌≡◌}
-use Rattle.office_base.specs.Tables.{envelopes_of_lot}
+use Rattle.office_store.proofs.Names.{◌≡◌, envelopes_of_lot}
 use Rattle.office_store.proofs.Shelves.{told_counted}
 use Rattle.office_store.proofs.shelf.SqlShelfLookups.list_envelopes_of_lot.Goals as goal
 

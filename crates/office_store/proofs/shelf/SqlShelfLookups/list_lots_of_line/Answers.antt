@@ -1,5 +1,4 @@
-use Rattle.std.proofs.Common.{◌≡◌}
-use Rattle.office_base.specs.Tables.{lots_of_line}
+use Rattle.office_store.proofs.Names.{◌≡◌, lots_of_line}
 use Rattle.office_store.proofs.Shelves.{told_counted}
 use Rattle.office_store.proofs.shelf.SqlShelfLookups.list_lots_of_line.Goals as goal
 

@@ -1,5 +1,4 @@
-use Rattle.std.proofs.Common.{◌≡◌}
-use Rattle.office_base.specs.Tables.{release_numbers}
+use Rattle.office_store.proofs.Names.{◌≡◌, release_numbers}
 use Rattle.office_store.proofs.Shelves.{told_counted}
 use Rattle.office_store.proofs.shelf.SqlShelfLookups.list_release_numbers.Goals as goal
 

@@ -1,5 +1,4 @@
-use Rattle.std.proofs.Common.{◌≡◌}
-use Rattle.office_base.specs.Tables.{releases_of_notice}
+use Rattle.office_store.proofs.Names.{◌≡◌, releases_of_notice}
 use Rattle.office_store.proofs.Shelves.{told_counted}
 use Rattle.office_store.proofs.shelf.SqlShelfLookups.list_releases_of_notice.Goals as goal
 

@@ -1,5 +1,4 @@
-use Rattle.std.proofs.Common.{◌≡◌}
-use Rattle.office_base.specs.Tables.{securities_of_lot}
+use Rattle.office_store.proofs.Names.{◌≡◌, securities_of_lot}
 use Rattle.office_store.proofs.Shelves.{told_counted}
 use Rattle.office_store.proofs.shelf.SqlShelfLookups.list_securities_of_lot.Goals as goal
 

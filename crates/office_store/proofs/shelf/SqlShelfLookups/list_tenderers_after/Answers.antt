@@ -1,5 +1,4 @@
-use Rattle.std.proofs.Common.{◌≡◌}
-use Rattle.office_base.specs.Pages.{tenderers_after}
+use Rattle.office_store.proofs.Names.{◌≡◌, tenderers_after}
 use Rattle.office_store.proofs.Shelves.{told_counted}
 use Rattle.office_store.proofs.shelf.SqlShelfLookups.list_tenderers_after.Goals as goal
 

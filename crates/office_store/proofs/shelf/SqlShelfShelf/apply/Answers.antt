@@ -1,4 +1,4 @@
-use Rattle.std.proofs.Common.{◌∙◌}
+use Rattle.office_store.proofs.Names.{◌∙◌}
 use Rattle.office_store.proofs.Shelves.{applied_ok, applied_err}
 use Rattle.office_store.proofs.shelf.SqlShelfShelf.apply.Goals as goal
 

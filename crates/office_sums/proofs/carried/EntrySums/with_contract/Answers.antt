@@ -1,10 +1,6 @@
-use Rattle.std.specs.Prelude.{◌≡◌, ◌+◌}
-use Rattle.std.proofs.Common.{sym, ap, ◌∙◌, arith}
-use Rattle.office_base.specs.EntrySums.{bare_sums, sums_with_entries}
-use Rattle.office_base.specs.declared.ledger.ContractSums.{ContractSums}
+use Rattle.office_sums.proofs.Names.{◌≡◌, ◌+◌, sym, ap, ◌∙◌, arith, bare_sums, sums_with_entries, ContractSums, no_sums}
 use Rattle.office_sums.proofs.EntriesAdd.{both, entries_add, three_same}
 use Rattle.office_sums.proofs.carried.EntrySums.with_contract.Goals as goal
-use Rattle.office_sums.specs.Carried.{no_sums}
 
 pub returns : goal.returns
 returns c entries are =

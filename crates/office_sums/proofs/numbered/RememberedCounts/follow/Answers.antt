@@ -1,10 +1,6 @@
-use Rattle.std.proofs.Common.{take, sym, subst, arith}
-use Rattle.std.proofs.lemmas.List.{take_all}
-use Rattle.office_base.proofs.SortedTables.{sorted-puts}
+use Rattle.office_sums.proofs.Names.{take, sym, subst, arith, take_all, sorted-puts, after_puts, CountsOn, CountsReleases}
 use Rattle.office_sums.proofs.LastLots.{after_more}
 use Rattle.office_sums.proofs.numbered.RememberedCounts.follow.Goals as goal
-use Rattle.office_base.specs.Tables.{after_puts}
-use Rattle.office_sums.specs.Numbered.{CountsOn, CountsReleases}
 
 pub loop-put-preserved : goal.loop-put-preserved
 loop-put-preserved c t =

@@ -1,6 +1,4 @@
-use Rattle.std.proofs.Common.{take}
-use Rattle.office_base.specs.Tables.{Tables}
-use Rattle.office_sums.specs.Numbered.{CountsOn}
+use Rattle.office_sums.proofs.Names.{take, Tables, CountsOn}
 use Rattle.office_sums.proofs.numbered.RememberedCounts.follow.Given as goal
 
 -- the numbers are right after the changes that were passed

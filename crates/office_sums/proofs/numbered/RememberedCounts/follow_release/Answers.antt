@@ -1,10 +1,6 @@
-use Rattle.std.specs.Prelude.{◌≡◌, suc, Some}
-use Rattle.std.proofs.Common.{sym, ap, ◌∙◌, arith}
-use Rattle.office_base.specs.Tables.{after_put}
-use Rattle.office_base.specs.declared.puts.Put.TheVariants.{Release}
+use Rattle.office_sums.proofs.Names.{◌≡◌, suc, Some, sym, ap, ◌∙◌, arith, after_put, Release, numbers_to, count_at}
 use Rattle.office_sums.proofs.NumbersOn.{next_numbers, others_stay}
 use Rattle.office_sums.proofs.numbered.RememberedCounts.follow_release.Goals as goal
-use Rattle.office_sums.specs.Numbered.{numbers_to, count_at}
 
 pub returns-then-before-seq : goal.returns-then-before-seq
 returns-then-before-seq c t = record {

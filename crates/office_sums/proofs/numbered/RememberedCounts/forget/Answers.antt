@@ -1,7 +1,6 @@
-use Rattle.std.proofs.Common.{subst}
+use Rattle.office_sums.proofs.Names.{subst, ForgetsNotice}
 use Rattle.office_sums.proofs.NumbersOn.{forgotten}
 use Rattle.office_sums.proofs.numbered.RememberedCounts.forget.Goals as goal
-use Rattle.office_sums.specs.Numbered.{ForgetsNotice}
 
 pub returns : goal.returns
 returns c =

@@ -1,7 +1,6 @@
-use Rattle.std.proofs.Common.{sym, subst}
+use Rattle.office_sums.proofs.Names.{sym, subst, CountsReleases}
 use Rattle.office_sums.proofs.NumbersOn.{put}
 use Rattle.office_sums.proofs.numbered.RememberedCounts.insert.Goals as goal
-use Rattle.office_sums.specs.Numbered.{CountsReleases}
 
 pub returns : goal.returns
 returns c t are h =

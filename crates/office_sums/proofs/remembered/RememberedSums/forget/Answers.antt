@@ -1,7 +1,6 @@
-use Rattle.std.proofs.Common.{subst}
+use Rattle.office_sums.proofs.Names.{subst, Forgets}
 use Rattle.office_sums.proofs.Forgotten.{forgotten}
 use Rattle.office_sums.proofs.remembered.RememberedSums.forget.Goals as goal
-use Rattle.office_sums.specs.Remembered.{Forgets}
 
 pub returns : goal.returns
 returns c =

@@ -1,7 +1,6 @@
-use Rattle.std.proofs.Common.{sym, subst}
+use Rattle.office_sums.proofs.Names.{sym, subst, Remembers}
 use Rattle.office_sums.proofs.Known.{put}
 use Rattle.office_sums.proofs.remembered.RememberedSums.insert.Goals as goal
-use Rattle.office_sums.specs.Remembered.{Remembers}
 
 pub returns : goal.returns
 returns c = record {

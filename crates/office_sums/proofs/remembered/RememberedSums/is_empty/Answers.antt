@@ -1,6 +1,4 @@
-use Rattle.std.specs.Prelude.{length}
-use Rattle.std.proofs.Common.{sym, ap, ◌∙◌}
-use Rattle.std.proofs.lemmas.List.{nil_from_length}
+use Rattle.office_sums.proofs.Names.{length, sym, ap, ◌∙◌, nil_from_length}
 use Rattle.office_sums.proofs.remembered.RememberedSums.is_empty.Goals as goal
 
 pub returns : goal.returns

@@ -1,6 +1,5 @@
-use Rattle.std.proofs.Common.{sym, subst}
+use Rattle.office_sums.proofs.Names.{sym, subst, AreSums}
 use Rattle.office_sums.proofs.remembered.RememberedSums.remember.Goals as goal
-use Rattle.office_sums.specs.Remembered.{AreSums}
 
 pub returns : goal.returns
 returns c = record {

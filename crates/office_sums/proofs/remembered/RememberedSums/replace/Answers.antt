@@ -1,9 +1,6 @@
-use Rattle.std.specs.Prelude.{IfSome}
-use Rattle.std.proofs.Common.{subst}
-use Rattle.office_base.specs.Tables.{after_put}
+use Rattle.office_sums.proofs.Names.{IfSome, subst, after_put, AreSums}
 use Rattle.office_sums.proofs.Forgotten.{others_stay}
 use Rattle.office_sums.proofs.remembered.RememberedSums.replace.Goals as goal
-use Rattle.office_sums.specs.Remembered.{AreSums}
 
 pub returns-in-Some : goal.returns-in-Some
 returns-in-Some c p t is sorted h =

@@ -1,15 +1,8 @@
-use Rattle.std.specs.Prelude.{List}
-use Rattle.std.proofs.Common.{ap, subst, sym, ◌∙◌}
-use Rattle.office_base.specs.Faults.{one_fault_more}
-use Rattle.office_base.specs.Tables.{after_puts}
-use Rattle.office_base.specs.declared.puts.Put.{Put}
+use Rattle.office_sums.proofs.Names.{List, ap, subst, sym, ◌∙◌, one_fault_more, after_puts, Put, Follows, KnowsEntries, CountsOn, CountsReleases, Remembers}
 use Rattle.office_sums.proofs.AfterLooks.{fails_after, leaves_after}
 use Rattle.office_sums.proofs.Known.{none_known}
 use Rattle.office_sums.proofs.NumbersOn.{none_counted}
 use Rattle.office_sums.proofs.shelf.RememberingShelfShelf.apply.Goals as goal
-use Rattle.office_sums.specs.Carried.{Follows, KnowsEntries}
-use Rattle.office_sums.specs.Numbered.{CountsOn, CountsReleases}
-use Rattle.office_sums.specs.Remembered.{Remembers}
 
 pub returns-in-Ok : goal.returns-in-Ok
 returns-in-Ok g c =

@@ -1,4 +1,4 @@
-use Rattle.sqlite.specs.Held.{state}
+use Rattle.office_tables.proofs.Names.{state}
 use Rattle.office_tables.proofs.ByTable.Awards.{select_get_award}
 use Rattle.office_tables.proofs.tables.awards.get_award.Goals as goal
 

@@ -1,4 +1,4 @@
-use Rattle.sqlite.specs.Held.{state}
+use Rattle.office_tables.proofs.Names.{state}
 use Rattle.office_tables.proofs.ByTable.Awards.{select_list_awards_of_notice}
 use Rattle.office_tables.proofs.tables.awards.list_awards_of_notice.Goals as goal
 

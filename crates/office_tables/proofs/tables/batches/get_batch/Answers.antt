@@ -1,4 +1,4 @@
-use Rattle.sqlite.specs.Held.{state}
+use Rattle.office_tables.proofs.Names.{state}
 use Rattle.office_tables.proofs.ByTable.Batches.{select_get_batch}
 use Rattle.office_tables.proofs.tables.batches.get_batch.Goals as goal
 

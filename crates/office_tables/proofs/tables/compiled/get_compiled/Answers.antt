@@ -1,4 +1,4 @@
-use Rattle.sqlite.specs.Held.{state}
+use Rattle.office_tables.proofs.Names.{state}
 use Rattle.office_tables.proofs.ByTable.Compiled.{select_get_compiled}
 use Rattle.office_tables.proofs.tables.compiled.get_compiled.Goals as goal
 

@@ -1,4 +1,4 @@
-use Rattle.sqlite.specs.Held.{state}
+use Rattle.office_tables.proofs.Names.{state}
 use Rattle.office_tables.proofs.ByTable.Contracts.{select_get_contract}
 use Rattle.office_tables.proofs.tables.contracts.get_contract.Goals as goal
 

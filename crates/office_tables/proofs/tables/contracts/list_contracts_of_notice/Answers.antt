@@ -1,4 +1,4 @@
-use Rattle.sqlite.specs.Held.{state}
+use Rattle.office_tables.proofs.Names.{state}
 use Rattle.office_tables.proofs.ByTable.Contracts.{select_list_contracts_of_notice}
 use Rattle.office_tables.proofs.tables.contracts.list_contracts_of_notice.Goals as goal
 

@@ -1,4 +1,4 @@
-use Rattle.sqlite.specs.Held.{state}
+use Rattle.office_tables.proofs.Names.{state}
 use Rattle.office_tables.proofs.ByTable.Entries.{select_get_entry}
 use Rattle.office_tables.proofs.tables.entries.get_entry.Goals as goal
 

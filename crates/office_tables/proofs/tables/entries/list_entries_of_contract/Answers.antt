@@ -1,4 +1,4 @@
-use Rattle.sqlite.specs.Held.{state}
+use Rattle.office_tables.proofs.Names.{state}
 use Rattle.office_tables.proofs.ByTable.Entries.{select_list_entries_of_contract}
 use Rattle.office_tables.proofs.tables.entries.list_entries_of_contract.Goals as goal
 

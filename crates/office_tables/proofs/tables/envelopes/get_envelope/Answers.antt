@@ -1,4 +1,4 @@
-use Rattle.sqlite.specs.Held.{state}
+use Rattle.office_tables.proofs.Names.{state}
 use Rattle.office_tables.proofs.ByTable.Envelopes.{select_get_envelope}
 use Rattle.office_tables.proofs.tables.envelopes.get_envelope.Goals as goal
 

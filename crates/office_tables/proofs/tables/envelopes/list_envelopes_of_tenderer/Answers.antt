@@ -1,4 +1,4 @@
-use Rattle.sqlite.specs.Held.{state}
+use Rattle.office_tables.proofs.Names.{state}
 use Rattle.office_tables.proofs.ByTable.Envelopes.{select_list_envelopes_of_tenderer}
 use Rattle.office_tables.proofs.tables.envelopes.list_envelopes_of_tenderer.Goals as goal
 

@@ -1,4 +1,4 @@
-use Rattle.sqlite.specs.Held.{state}
+use Rattle.office_tables.proofs.Names.{state}
 use Rattle.office_tables.proofs.ByTable.LateRules.{select_get_late}
 use Rattle.office_tables.proofs.tables.late_rules.get_late.Goals as goal
 

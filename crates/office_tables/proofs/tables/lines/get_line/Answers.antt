@@ -1,4 +1,4 @@
-use Rattle.sqlite.specs.Held.{state}
+use Rattle.office_tables.proofs.Names.{state}
 use Rattle.office_tables.proofs.ByTable.Lines.{select_get_line}
 use Rattle.office_tables.proofs.tables.lines.get_line.Goals as goal
 

@@ -1,4 +1,4 @@
-use Rattle.sqlite.specs.Held.{state}
+use Rattle.office_tables.proofs.Names.{state}
 use Rattle.office_tables.proofs.ByTable.Lots.{select_get_lot}
 use Rattle.office_tables.proofs.tables.lots.get_lot.Goals as goal
 

@@ -1,4 +1,4 @@
-use Rattle.sqlite.specs.Held.{state}
+use Rattle.office_tables.proofs.Names.{state}
 use Rattle.office_tables.proofs.ByTable.Lots.{select_list_lots_of_line}
 use Rattle.office_tables.proofs.tables.lots.list_lots_of_line.Goals as goal
 

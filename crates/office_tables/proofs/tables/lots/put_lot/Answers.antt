@@ -1,5 +1,4 @@
-use Rattle.std.proofs.Common.{refl, sym, ap, ◌∙◌}
-use Rattle.office_tables.specs.ItemTexts.{items_in_text}
+use Rattle.office_tables.proofs.Names.{refl, sym, ap, ◌∙◌, items_in_text}
 use Rattle.office_base.specs.declared.puts.Put.TheVariants as put
 use Rattle.office_tables.proofs.tables.lots.put_lot.Goals as goal
 

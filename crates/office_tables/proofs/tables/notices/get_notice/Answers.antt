@@ -1,4 +1,4 @@
-use Rattle.sqlite.specs.Held.{state}
+use Rattle.office_tables.proofs.Names.{state}
 use Rattle.office_tables.proofs.ByTable.Notices.{select_get_notice}
 use Rattle.office_tables.proofs.tables.notices.get_notice.Goals as goal
 

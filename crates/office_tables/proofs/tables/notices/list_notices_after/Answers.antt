@@ -1,6 +1,4 @@
-use Rattle.sqlite.specs.Held.{state}
-use Rattle.std.proofs.Common.{◌∙◌, ap, sym}
-use Rattle.office_base.specs.Pages.{notices_after}
+use Rattle.office_tables.proofs.Names.{state, ◌∙◌, ap, sym, notices_after}
 use Rattle.office_tables.proofs.ByTable.Notices.{select_list_notices_above, select_list_first_notices}
 use Rattle.office_tables.proofs.tables.notices.list_notices_after.Goals as goal
 

@@ -1,9 +1,5 @@
-use Rattle.std.proofs.Common.{[], Ok, Err, refl, sym, subst}
-use Rattle.sqlite_value.specs.Order.{Row}
-use Rattle.sqlite.specs.Held.{state}
-use Rattle.sqlite.specs.State.{ExecutesInside}
+use Rattle.office_tables.proofs.Names.{[], Ok, Err, refl, sym, subst, Row, state, ExecutesInside, notice_put}
 use Rattle.office_base.specs.declared.puts.Put.TheVariants as put
-use Rattle.office_tables.specs.Statements.{notice_put}
 use Rattle.office_tables.proofs.Failing.{if_err_with}
 use Rattle.office_tables.proofs.Statements.{fails_one, run_one}
 use Rattle.office_tables.proofs.Stepping.{on_ok_with}

@@ -1,5 +1,4 @@
-use Rattle.std.proofs.Common.{◌∙◌}
-use Rattle.office_tables.specs.Tables.Office.{clock_read}
+use Rattle.office_tables.proofs.Names.{◌∙◌, clock_read}
 use Rattle.office_tables.proofs.ByTable.Office.{get_clock as text, select_get_clock}
 use Rattle.office_tables.proofs.Asked.{asked, only_one, same_found}
 use Rattle.office_tables.proofs.tables.office.get_clock.Goals as goal

@@ -1,4 +1,4 @@
-use Rattle.sqlite.specs.Held.{state}
+use Rattle.office_tables.proofs.Names.{state}
 use Rattle.office_tables.proofs.ByTable.Performances.{select_get_performance}
 use Rattle.office_tables.proofs.tables.performances.get_performance.Goals as goal
 

@@ -1,4 +1,4 @@
-use Rattle.sqlite.specs.Held.{state}
+use Rattle.office_tables.proofs.Names.{state}
 use Rattle.office_tables.proofs.ByTable.Releases.{select_get_release}
 use Rattle.office_tables.proofs.tables.releases.get_release.Goals as goal
 

@@ -1,4 +1,4 @@
-use Rattle.sqlite.specs.Held.{state}
+use Rattle.office_tables.proofs.Names.{state}
 use Rattle.office_tables.proofs.ByTable.Releases.{select_list_release_numbers}
 use Rattle.office_tables.proofs.tables.releases.list_release_numbers.Goals as goal
 

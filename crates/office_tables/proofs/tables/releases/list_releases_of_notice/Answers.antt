@@ -1,4 +1,4 @@
-use Rattle.sqlite.specs.Held.{state}
+use Rattle.office_tables.proofs.Names.{state}
 use Rattle.office_tables.proofs.ByTable.Releases.{select_list_releases_of_notice}
 use Rattle.office_tables.proofs.tables.releases.list_releases_of_notice.Goals as goal
 

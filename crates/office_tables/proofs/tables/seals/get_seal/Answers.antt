@@ -1,4 +1,4 @@
-use Rattle.sqlite.specs.Held.{state}
+use Rattle.office_tables.proofs.Names.{state}
 use Rattle.office_tables.proofs.ByTable.Seals.{select_get_seal}
 use Rattle.office_tables.proofs.tables.seals.get_seal.Goals as goal
 

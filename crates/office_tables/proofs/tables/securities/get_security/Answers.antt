@@ -1,4 +1,4 @@
-use Rattle.sqlite.specs.Held.{state}
+use Rattle.office_tables.proofs.Names.{state}
 use Rattle.office_tables.proofs.ByTable.Securities.{select_get_security}
 use Rattle.office_tables.proofs.tables.securities.get_security.Goals as goal
 

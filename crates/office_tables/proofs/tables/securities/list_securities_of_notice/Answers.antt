@@ -1,4 +1,4 @@
-use Rattle.sqlite.specs.Held.{state}
+use Rattle.office_tables.proofs.Names.{state}
 use Rattle.office_tables.proofs.ByTable.Securities.{select_list_securities_of_notice}
 use Rattle.office_tables.proofs.tables.securities.list_securities_of_notice.Goals as goal
 

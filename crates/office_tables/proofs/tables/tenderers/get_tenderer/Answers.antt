@@ -1,4 +1,4 @@
-use Rattle.sqlite.specs.Held.{state}
+use Rattle.office_tables.proofs.Names.{state}
 use Rattle.office_tables.proofs.ByTable.Tenderers.{select_get_tenderer}
 use Rattle.office_tables.proofs.tables.tenderers.get_tenderer.Goals as goal
 

@@ -1,6 +1,4 @@
-use Rattle.sqlite.specs.Held.{state}
-use Rattle.std.proofs.Common.{◌∙◌, ap, sym}
-use Rattle.office_base.specs.Pages.{tenderers_after}
+use Rattle.office_tables.proofs.Names.{state, ◌∙◌, ap, sym, tenderers_after}
 use Rattle.office_tables.proofs.ByTable.Tenderers.{select_list_tenderers_above, select_list_first_tenderers}
 use Rattle.office_tables.proofs.tables.tenderers.list_tenderers_after.Goals as goal
 

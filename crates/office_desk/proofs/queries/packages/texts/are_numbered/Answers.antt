@@ -1,8 +1,4 @@
-use Rattle.std.proofs.Common.{◌≡◌, ◌+◌, [], List, ℕ, length, drop, map, true, sym, ap, ◌∙◌, arith}
-use Rattle.std.proofs.lemmas.List.{drop_all, length-map}
-use Rattle.office_base.specs.declared.records.ReleaseRow.{ReleaseRow}
-use Rattle.office_machine.specs.Fates.{numbers}
-use Rattle.office_plans.proofs.OneByOne.{are_from, are_numbers}
+use Rattle.office_desk.proofs.Names.{◌≡◌, ◌+◌, [], List, ℕ, length, drop, map, true, sym, ap, ◌∙◌, arith, drop_all, length-map, ReleaseRow, numbers, are_from, are_numbers}
 use Rattle.office_desk.proofs.queries.packages.texts.are_numbered.Goals as goal
 
 pub returns : goal.returns

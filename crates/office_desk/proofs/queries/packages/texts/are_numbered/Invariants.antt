@@ -1,6 +1,4 @@
-use Rattle.std.proofs.Common.{◌≡◌, ◌+◌, drop, map}
-use Rattle.office_base.specs.declared.records.ReleaseRow.{ReleaseRow}
-use Rattle.office_plans.proofs.OneByOne.{are_from}
+use Rattle.office_desk.proofs.Names.{◌≡◌, ◌+◌, drop, map, ReleaseRow, are_from}
 use Rattle.office_desk.proofs.queries.packages.texts.are_numbered.Given as goal
 
 -- the numbers from here on are tested, and those before were right

@@ -1,13 +1,4 @@
-use Rattle.std.proofs.Common.{◌≡◌, ◌∙◌, ℕ, List, All, Result, Ok, Err, String, Global, IfOk, OnOk, string_bytes, subst}
-use Rattle.serde_json.specs.Written.{compact_text}
-use Rattle.ocds_merge.specs.Compile.{with_head}
-use Rattle.ocds_merge.specs.Merge.{merge_or_null}
-use Rattle.ocds_merge.specs.Stored.{IsStorable}
-use Rattle.office_values.specs.declared.refusal.Refusal.{Refusal}
-use Rattle.office_base.specs.Tables.{Tables}
-use Rattle.office_plans.proofs.KeptObjects.{has_merge_any}
-use Rattle.office_publications.specs.Merges.{CanGoOn, HasMerge, IsKeptOf, IsMergedOf, bodies}
-use Rattle.office_publications.specs.declared.merges.Kept.{Kept}
+use Rattle.office_desk.proofs.Names.{◌≡◌, ◌∙◌, ℕ, List, All, Result, Ok, Err, String, Global, IfOk, OnOk, string_bytes, subst, compact_text, with_head, merge_or_null, IsStorable, Refusal, Tables, has_merge_any, CanGoOn, HasMerge, IsKeptOf, IsMergedOf, bodies, Kept}
 use Rattle.office_desk.proofs.queries.packages.texts.load_compiled.Goals as goal
 
 -- A compiled release that was made of the loaded value has the text for these tables.

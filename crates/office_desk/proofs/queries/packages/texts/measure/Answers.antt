@@ -1,6 +1,4 @@
-use Rattle.std.proofs.Common.{◌≡◌, ◌+◌, ◌∷◌, drop, sym, ap, ◌∙◌, subst, arith}
-use Rattle.std.proofs.lemmas.List.{drop_all, drop_more}
-use Rattle.office_base.specs.declared.records.ReleaseRow.{ReleaseRow}
+use Rattle.office_desk.proofs.Names.{◌≡◌, ◌+◌, ◌∷◌, drop, sym, ap, ◌∙◌, subst, arith, drop_all, drop_more, ReleaseRow}
 use Rattle.office_desk.proofs.Placed.{Measures, measures_next, measured, all_written}
 use Rattle.office_desk.proofs.queries.packages.texts.measure.Goals as goal
 

@@ -1,4 +1,4 @@
-use Rattle.std.proofs.Common.{drop}
+use Rattle.office_desk.proofs.Names.{drop}
 use Rattle.office_desk.proofs.Placed.{Measures}
 use Rattle.office_desk.proofs.queries.packages.texts.measure.Given as goal
 

@@ -1,5 +1,4 @@
-use Rattle.std.proofs.Common.{◌≡◌, drop}
-use Rattle.ocds_release.specs.Opened.{completed}
+use Rattle.office_desk.proofs.Names.{◌≡◌, drop, completed}
 use Rattle.office_desk.proofs.queries.packages.texts.put_releases.Given as goal
 
 abbrev pub invariant-loop-row : goal.invariant-loop-row

@@ -1,16 +1,4 @@
-use Rattle.std.proofs.Common.{◌≡◌, ◌<◌, ◌∙◌, List, length, Option, string_bytes, sym, ap, subst}
-use Rattle.std.specs.Prelude.{ℕ, IfSome}
-use Rattle.serde_json.specs.Data.{Data}
-use Rattle.serde_json.specs.Written.{compact_text}
-use Rattle.ocds_merge.specs.Compile.{with_head}
-use Rattle.ocds_merge.specs.Merge.{merge_or_null}
-use Rattle.ocds_release.specs.Opened.{completed, moment_of_last}
-use Rattle.ocds_release.specs.Packages.{record_package}
-use Rattle.office_base.specs.Tables.{releases_of_notice}
-use Rattle.office_values.specs.Moments.{moment_text}
-use Rattle.office_publications.specs.Merges.{bodies}
-use Rattle.office_publications.specs.Packages.{compiled_told, releases_told}
-use Rattle.office_publications.specs.Told.{IsCompiled}
+use Rattle.office_desk.proofs.Names.{◌≡◌, ◌<◌, ◌∙◌, List, length, Option, string_bytes, sym, ap, subst, ℕ, IfSome, Data, compact_text, with_head, merge_or_null, completed, moment_of_last, record_package, releases_of_notice, moment_text, bodies, compiled_told, releases_told, IsCompiled}
 use Rattle.office_desk.proofs.Packaged.{filled}
 use Rattle.office_desk.proofs.queries.packages.texts.record_package.Goals as goal
 

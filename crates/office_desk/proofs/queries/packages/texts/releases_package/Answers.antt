@@ -1,11 +1,4 @@
-use Rattle.std.proofs.Common.{◌≡◌, ◌<◌, List, length, Option, subst}
-use Rattle.std.specs.Prelude.{ℕ, IfSome}
-use Rattle.serde_json.specs.Data.{Data}
-use Rattle.serde_json.specs.Written.{compact_text}
-use Rattle.ocds_release.specs.Opened.{completed, moment_of_last}
-use Rattle.ocds_release.specs.Packages.{release_package}
-use Rattle.office_base.specs.Tables.{releases_of_notice}
-use Rattle.office_publications.specs.Packages.{releases_told}
+use Rattle.office_desk.proofs.Names.{◌≡◌, ◌<◌, List, length, Option, subst, ℕ, IfSome, Data, compact_text, completed, moment_of_last, release_package, releases_of_notice, releases_told}
 use Rattle.office_desk.proofs.Packaged.{filled}
 use Rattle.office_desk.proofs.queries.packages.texts.releases_package.Goals as goal
 

@@ -1,10 +1,6 @@
-use Rattle.std.proofs.Common.{◌∙◌, List, ℕ, subst}
-use Rattle.std.specs.Prelude.{All}
+use Rattle.office_desk.proofs.Names.{◌∙◌, List, ℕ, subst, All, IsWritten, ocid_text, AreAllThere}
 use Rattle.office_desk.proofs.Placed.{all_there}
 use Rattle.office_desk.proofs.Shown.{on_ok_any}
-use Rattle.office_desk.specs.Extent.{IsWritten}
-use Rattle.ocds_release.specs.Texts.{ocid_text}
-use Rattle.office_publications.specs.Told.{AreAllThere}
 use Rattle.office_desk.proofs.queries.packages.texts.releases_text.Goals as goal
 
 pub returns-clause-there : goal.returns-clause-there

@@ -1,4 +1,4 @@
-use Rattle.std.proofs.Common.{[], ◌∷◌, ◌∙◌}
+use Rattle.office_tables.proofs.Names.{[], ◌∷◌, ◌∙◌}
 use Rattle.office_tables.proofs.Exactly.{columns_are}
 use Rattle.office_tables.proofs.tables.notices.FormerNoticeStored.from_row.Goals as goal
 
