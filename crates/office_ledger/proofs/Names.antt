@@ -88,8 +88,8 @@ pub use Rattle.sqlite_resolve.specs.Expr.{lower, lower_to}
 unfoldable pub use Rattle.sqlite_resolve.specs.Expr.{node, passes}
 pub use Rattle.sqlite_resolve.specs.Lowering.{nothing, fresh, max_budget, Checked, Lowering, and_then}
 unfoldable pub use Rattle.sqlite_resolve.specs.Lowering.{alone, chosen, first_found, spend, begin, finish, take_slot}
-pub use Rattle.sqlite_resolve.specs.Scope.{Name, Context}
-unfoldable pub use Rattle.sqlite_resolve.specs.Scope.{find, in_level, only, hit, is_among, column_in, declared, term_of, column_at}
+pub use Rattle.sqlite_resolve.specs.Scope.{Name, declared, Context}
+unfoldable pub use Rattle.sqlite_resolve.specs.Scope.{find, in_level, only, hit, is_among, column_in, term_of, column_at}
 pub use Rattle.sqlite_resolve.specs.Terms.{conjuncts}
 pub use Rattle.sqlite_resolve.specs.declared.body.Joined.{Joined}
 pub use Rattle.sqlite_resolve.specs.declared.compare.Affinity.{Affinity}

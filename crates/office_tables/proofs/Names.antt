@@ -92,14 +92,13 @@ pub use Rattle.sqlite.proofs.StateLemmas.{survives_then}
 pub use Rattle.sqlite.specs.Does.{Tally, AtPlace, Defines, MakesTable, MakesIndex, MakesSequence, lacks_sequence, sequence_text, OnRows, Does}
 pub use Rattle.sqlite.specs.Effect.{Database, IsDatabase, RefusesToRead, Answers, value_rows, is_query}
 pub use Rattle.sqlite.specs.Held.{Held, state}
-pub use Rattle.sqlite.specs.Listing.{misses_table, if_select, is_select, reads_listing}
-unfoldable pub use Rattle.sqlite.specs.Listing.{understood, listing_schema}
+pub use Rattle.sqlite.specs.Listing.{listing_schema, misses_table, if_select, is_select, reads_listing}
+unfoldable pub use Rattle.sqlite.specs.Listing.{understood}
 pub use Rattle.sqlite.specs.Program.{overlay}
-pub use Rattle.sqlite.specs.Rows.{Task, Written, InsertsOr, stamped, Deletes, Clears, Meets, Upserts, Judged, Tries, TriesEach, Counts, count_of, rowids_for}
-unfoldable pub use Rattle.sqlite.specs.Rows.{shown}
+pub use Rattle.sqlite.specs.Rows.{Task, Written, InsertsOr, shown, stamped, Deletes, Clears, Meets, Upserts, Judged, Tries, TriesEach, Counts, count_of, rowids_for}
 pub use Rattle.sqlite.specs.State.{Executes, ExecutesInside, IsUnchanged, IsRolledBack, FailsToShow, IsTooLate, IsNoStatement, store_error, Shows, ShowsRows, mode_of, HasCleanDisk, text_of, Fails, IsStatement, IsMisplaced, Escapes, RunsAlone, RunsCommand, HasCause, Runs, is_pragma, shows_rows, Survives}
 unfoldable pub use Rattle.sqlite.specs.State.{FailsToQuery, IsNotRun, ExecutesIn, EndsScope}
-unfoldable pub use Rattle.sqlite.specs.Values.{bound}
+pub use Rattle.sqlite.specs.Values.{bound}
 pub use Rattle.sqlite.specs.declared.error.Error.{Error}
 pub use Rattle.sqlite.specs.declared.error.Error.TheVariants.{SqlInputError, InvalidQuery}
 pub use Rattle.sqlite.specs.declared.run.Mode.{Mode}
@@ -130,11 +129,11 @@ pub use Rattle.sqlite_resolve.specs.Expr.{lower}
 unfoldable pub use Rattle.sqlite_resolve.specs.Expr.{node, opened, passes, operation, both, combine, wanted_truth, tests_truth, tests_alias, lower_to}
 pub use Rattle.sqlite_resolve.specs.Given.{are_among, do_update}
 unfoldable pub use Rattle.sqlite_resolve.specs.Given.{is_key_at, key_at, upserts, upsert, update, key_meant}
-pub use Rattle.sqlite_resolve.specs.Lowering.{max_budget, Checked, Lowering, and_then, fresh}
-unfoldable pub use Rattle.sqlite_resolve.specs.Lowering.{chosen, spend, begin, finish, take_slot, alone}
+pub use Rattle.sqlite_resolve.specs.Lowering.{max_budget, Checked, Lowering, chosen, and_then, fresh, alone}
+unfoldable pub use Rattle.sqlite_resolve.specs.Lowering.{spend, begin, finish, take_slot}
 unfoldable pub use Rattle.sqlite_resolve.specs.Program.{program}
-pub use Rattle.sqlite_resolve.specs.Scope.{Context, Name, alias_of}
-unfoldable pub use Rattle.sqlite_resolve.specs.Scope.{declared, in_level, only, hit, is_among, column_in, term_of, column_at}
+pub use Rattle.sqlite_resolve.specs.Scope.{Context, Name, declared, alias_of}
+unfoldable pub use Rattle.sqlite_resolve.specs.Scope.{in_level, only, hit, is_among, column_in, term_of, column_at}
 unfoldable pub use Rattle.sqlite_resolve.specs.Select.{constant_or}
 pub use Rattle.sqlite_resolve.specs.Terms.{number}
 pub use Rattle.sqlite_resolve.specs.Write.{places}
