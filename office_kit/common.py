@@ -4,6 +4,7 @@ The program is $PROCURE, or build/procure if that isn't set. A fault of a run en
 ends it with status 3 and a line that says how to get it.
 """
 import argparse
+import collections
 import contextlib
 import functools
 import itertools
@@ -15,7 +16,6 @@ import signal
 import socket
 import subprocess
 import sys
-import threading
 import time
 import unittest
 from collections.abc import Callable, Iterable, Iterator, Sequence
@@ -38,8 +38,8 @@ LENGTH = re.compile(rb"\r\nContent-Length: (\d+)\r\n")
 SCRIPTS = {"python": (".py", re.compile(rb"#!.*\bpython3?\b")), "shell": (".sh", re.compile(rb"#!.*\b(ba)?sh\b"))}
 # Names that come in no order: this prime divides no count of tens.
 STRIDE = 7919
-# The thread that holds this chooses the next port.
-TURN = threading.Lock()
+# The sockets that keep ports for servers, the last ones.
+HELD: collections.deque[socket.socket] = collections.deque(maxlen=200)
 
 
 class Missing(SystemExit, unittest.SkipTest):
@@ -159,25 +159,29 @@ def is_whole(response: bytes) -> bool:
     return head.startswith(OK) and b"\r\nContent-Length: %d\r\n" % len(body) in head + b"\r\n"
 
 
-@functools.cache
-def own_ports() -> tuple[Iterator[int], socket.socket]:
-    """A hundred ports in turn, which no other script takes while this one runs, and the socket whose name keeps them for it.
-    (To clients the kernel gives those above 32767.)"""
-    name = socket.socket(socket.AF_UNIX)
-    for first in range(20000, 32000, 100):
-        with contextlib.suppress(OSError):
-            name.bind(f"\0procure-ports-{first}")
-            return itertools.cycle(range(first, first + 100)), name
-    fail("too many scripts run already")
-
-
 def free_port() -> int:
-    """A port at which nothing listens."""
-    with TURN:
-        for port in itertools.islice(own_ports()[0], 100):
-            with contextlib.suppress(OSError), socket.create_server((HOST, port)):
-                return port
-    fail("no port is free")
+    """A port of this machine for a server that gets its number from here. This process binds it and doesn't listen, until it has bound so many others that HELD
+    is full. Until then Linux gives it to nobody else, and lets a server listen there that sets SO_REUSEADDR, as procure, nginx, sshd and Python do."""
+    held = socket.socket()
+    held.setsockopt(socket.SOL_SOCKET, socket.SO_REUSEADDR, 1)
+    held.bind((HOST, 0))
+    HELD.append(held)
+    return int(held.getsockname()[1])
+
+
+def listens(port: int) -> bool:
+    """Whether a server listens at a port of this machine. (Those that listen, state 0A, are the first rows: the many others aren't read.)"""
+    with open("/proc/net/tcp") as file:
+        rows = map(str.split, itertools.islice(file, 1, None))
+        return any(row[1].endswith(f":{port:04X}") for row in itertools.takewhile(lambda row: row[3] == "0A", rows))
+
+
+def wait_for(process: "subprocess.Popen[Any]", port: int) -> None:
+    """Waits until a server listens. If it ends before, this fails at once, with its error output if that is a pipe. (pytest shows what goes elsewhere.)"""
+    if not until(lambda: process.poll() is not None or listens(port), 60):
+        fail(f"{process.args!r} doesn't listen")
+    if process.returncode is not None:
+        fail(f"the program ended with status {process.returncode} before it listened: {process.stderr.read() if process.stderr else process.args!r}")
 
 
 def connect(port: int, patience: float = 0) -> socket.socket:
@@ -193,11 +197,11 @@ def connect(port: int, patience: float = 0) -> socket.socket:
 
 
 def until(holds: Callable[[], object], patience: float = 5) -> bool:
-    """Whether something holds within some seconds. They are counted in turns of 20 ms, which last longer while the machine is busy."""
-    for _ in range(math.ceil(patience * 50)):
+    """Whether something holds within some seconds. They are counted in turns of 10 ms, which last longer while the machine is busy."""
+    for _ in range(math.ceil(patience * 100)):
         if holds():
             return True
-        time.sleep(0.02)
+        time.sleep(0.01)
     return bool(holds())
 
 

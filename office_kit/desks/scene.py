@@ -64,7 +64,6 @@ def staged(program: str, browser: Browser, pictures: str, fill: Callable[[int], 
            more: Iterable[Change] = (), signing: Signing | None = None) -> Iterator[Scene]:
     """A scene over a new office, which is filled at its port before the front begins."""
     with tempfile.TemporaryDirectory() as folder, server(program, os.path.join(folder, "office.db")) as (office, port):
-        connect(port, PATIENCE).close()
         fill(port)
         with Front(folder, port, more, signing) as front:
             made = Scene(front, browser, office, pictures, program, Client(Transport(front.address().rstrip("/"), front.context), key_of))

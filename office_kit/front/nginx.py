@@ -12,7 +12,7 @@ from pathlib import Path
 from string import Template
 from typing import Any, NamedTuple
 
-from office_kit.common import FIELDS, HOST, ROOT, Caller, connect, free_port, need, until
+from office_kit.common import FIELDS, HOST, ROOT, Caller, free_port, need, until, wait_for
 from office_kit.front.clerks import Change, Signing, adapted, certify
 
 # An address of this machine from which, by the adapted file, no clerk asks.
@@ -53,7 +53,7 @@ class Front:
         self.process = subprocess.Popen(self.words, stdin=subprocess.DEVNULL)
 
     def __enter__(self) -> "Front":
-        connect(self.port, PATIENCE).close()
+        wait_for(self.process, self.port)
         return self
 
     def __exit__(self, *_: object) -> None:

@@ -9,7 +9,7 @@ from dataclasses import dataclass
 from typing import Any
 
 from office_kit.client import PATIENCE, Answer, Client, Port
-from office_kit.common import CONFIG, HOST, check, connect, free_port, running, serve_words
+from office_kit.common import CONFIG, HOST, check, free_port, running, serve_words, wait_for
 
 MANY = 1_000_000
 
@@ -25,17 +25,21 @@ class Office:
 
 
 @contextlib.contextmanager
-def server(program: str, path: Any, count: int = MANY, settings: str = CONFIG, **how: Any) -> "Iterator[tuple[subprocess.Popen[bytes], int]]":
-    """A process that serves so many connections over a file, and its port. It may not listen yet; at the end it is killed. `how` is for `subprocess.Popen`."""
+def server(program: str, path: Any, count: int = MANY, settings: str = CONFIG, may_end: bool = False,
+           **how: Any) -> "Iterator[tuple[subprocess.Popen[bytes], int]]":
+    """A process that serves so many connections over a file, and its port. It listens, unless it may end before; at the end it is killed. `how` is for
+    `subprocess.Popen`."""
     port = free_port()
     with running(serve_words(program, str(path), port, count, settings), **how) as process:
+        if not may_end:
+            wait_for(process, port)
         yield process, port
 
 
 @contextlib.contextmanager
 def served(program: str, path: Any, count: int = MANY, strict: bool = True, **how: Any) -> Iterator[Office]:
-    """An office, which may not listen yet. It ends with status 0 after so many connections; with MANY it is killed at the end. With `strict` its client ends
-    the test if a request is refused; `how` is for `subprocess.Popen`."""
+    """An office that listens. It ends with status 0 after so many connections; with MANY it is killed at the end. With `strict` its client ends the test if a
+    request is refused; `how` is for `subprocess.Popen`."""
     with server(program, path, count, **how) as (process, port):
         yield Office(str(path), port, process, Client(Port(port, strict=strict)))
         check("it ends with 0", count == MANY or process.wait(PATIENCE) == 0)
@@ -49,11 +53,9 @@ class Serving(contextlib.ExitStack):
         self.program, self.folder, self.count = program, folder, 0
 
     def __call__(self, file: Any = None, **how: Any) -> Office:
-        """An office that answers, by `served`."""
+        """An office, by `served`."""
         self.count += 1
-        office = self.enter_context(served(self.program, file or os.path.join(self.folder, f"office-{self.count}.db"), **how))
-        connect(office.port, PATIENCE).close()
-        return office
+        return self.enter_context(served(self.program, file or os.path.join(self.folder, f"office-{self.count}.db"), **how))
 
 
 class Handler(http.server.BaseHTTPRequestHandler):
@@ -72,8 +74,11 @@ class Handler(http.server.BaseHTTPRequestHandler):
 
 @contextlib.contextmanager
 def answered_by(handler: type[Handler]) -> Iterator[str]:
-    """The address of a server that answers so while this lasts."""
-    with http.server.ThreadingHTTPServer((HOST, free_port()), handler) as listener:
+    """The address of a server that answers so while this lasts. (Its thread ends with it, even if a test fails. Else it would poll the number of its closed
+    socket for ever: that takes a processor, and keeps each later socket of that number open for half a second after it is closed.)"""
+    with http.server.ThreadingHTTPServer((HOST, 0), handler) as listener:
         threading.Thread(target=listener.serve_forever, daemon=True).start()
-        yield f"http://{HOST}:{listener.server_port}"
-        listener.shutdown()
+        try:
+            yield f"http://{HOST}:{listener.server_port}"
+        finally:
+            listener.shutdown()

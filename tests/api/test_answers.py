@@ -23,8 +23,7 @@ from hypothesis import HealthCheck, given, settings, strategies
 from office_kit.api import walk
 from office_kit.api.office import JSON, Asker, Document, award_of, plain, shape
 from office_kit.api.openapi_rules import METHODS
-from office_kit.client import PATIENCE
-from office_kit.common import ROOT, connect
+from office_kit.common import ROOT
 from office_kit.store.served import server
 
 DOCUMENT = Document()
@@ -193,7 +192,6 @@ CHECKS = (routes, bodies, walk.begin, methods, parameters, pages, rights, forms,
 @pytest.fixture(scope="module")
 def asker(program, tmp_path_factory):
     with server(program, tmp_path_factory.mktemp("api") / "office.db") as (_, port):
-        connect(port, PATIENCE).close()
         yield Asker(DOCUMENT, port)
 
 

@@ -1,6 +1,7 @@
 """The client that tests and measures share (office_kit/client.py): its routes, by docs/API.md, refusals, and how it waits."""
 import itertools
 import socket
+import subprocess
 import threading
 import time
 
@@ -11,6 +12,7 @@ from office_kit.client import Client, Front, Port, Requests, budget
 from office_kit.common import FIELDS, HOST
 from office_kit.front.checks import routes
 from office_kit.front.office import StandIn
+from office_kit.store.served import Handler, answered_by, served
 
 DEADLINE = "2099-03-01T12:00:00Z"
 # The arguments of each method.
@@ -74,6 +76,19 @@ def test_no_response():
         threading.Thread(target=lambda: listener.accept()[0].close(), daemon=True).start()
         with pytest.raises((SystemExit, ConnectionError), match="no response|Connection reset"):
             Client(Port(listener.getsockname()[1])).open("N9")
+
+
+def test_an_office_that_does_not_start(program, tmp_path):
+    """It is reported at once, with its error output."""
+    with pytest.raises(SystemExit, match="status 1 before it listened: b'procure: store"), served(program, tmp_path, stderr=subprocess.PIPE):
+        pass
+
+
+def test_a_thread_ends_with_a_failing_test():
+    before = threading.active_count()
+    with pytest.raises(AssertionError), answered_by(Handler):
+        raise AssertionError
+    assert threading.active_count() == before
 
 
 def test_it_waits_after_429(office):

@@ -56,7 +56,7 @@ class Office(contextlib.ExitStack):
 
     def start(self):
         """Whether the server listens; else it has ended with `procure: store`."""
-        how = {"env": self.trial.disk.environment(), "stderr": subprocess.PIPE}
+        how = {"may_end": True, "env": self.trial.disk.environment(), "stderr": subprocess.PIPE}
         self.process, self.port = self.enter_context(server(self.trial.program, self.path, self.count, **how))
         self.taken, end = 0, time.monotonic() + LISTENS
         while self.ask(IDLE)[0] is None:

@@ -16,7 +16,6 @@ import time
 import pytest
 
 from office_kit.common import exchange, free_port, import_of, is_whole, look, running, serve_words, timed_exchange, what_came
-from office_kit.measures import wait_for_answer
 from office_kit.store import pages
 from office_kit.store.files import EMPTY, copied, rows_of, sqlite, wrong
 from office_kit.store.served import MANY, server
@@ -87,9 +86,8 @@ def found_by_sqlite(file):
 
 
 def found_by_program(program, file):
-    """The lines of the ledger that the program answers for the file. (Its first answer ends the waiting.)"""
-    with server(program, file.path, 2) as (process, port):
-        wait_for_answer(process, port)
+    """The lines of the ledger that the program answers for the file."""
+    with server(program, file.path, 1) as (process, port):
         response, _ = exchange(port, look(b"/ledger"))
         assert process.wait(LISTENS) == 0 and is_whole(response), "it isn't opened again"
     return {" ".join(row.split("\t")[:3]) for row in response.decode().partition(EMPTY)[2].splitlines()}

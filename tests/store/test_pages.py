@@ -4,6 +4,7 @@ At a path that names nothing the program puts one page, and then the tables. `sq
 (`kill -9`) before each call that changes a file or a folder. Programs that do otherwise are found.
 """
 import fcntl
+import functools
 import os
 import sqlite3
 import subprocess
@@ -192,7 +193,8 @@ def test_second_name_of_a_stopped_start(folder):
 @pytest.mark.parametrize("turn", range(8))
 def test_two_at_once(folder, turn):
     """Two programs start at once over a file that doesn't exist. One serves, and the other is refused."""
-    with server(folder.program, folder.file, 1, stderr=subprocess.PIPE) as one, server(folder.program, folder.file, 1, stderr=subprocess.PIPE) as other:
+    start = functools.partial(server, folder.program, folder.file, 1, may_end=True, stderr=subprocess.PIPE)
+    with start() as one, start() as other:
         while (one[0].poll(), other[0].poll()) == (None, None):
             time.sleep(0.01)
         (ended, _), (process, port) = (one, other) if one[0].poll() is not None else (other, one)

@@ -41,7 +41,8 @@ class Place:
 
     def ended(self, db, requests, **control):
         """The answers of a server with the library, which gets these variables; the status and the errors with which it ends on its own."""
-        with server(self.program, db, len(requests), env={**os.environ, "LD_PRELOAD": self.shim, **control}, stderr=subprocess.PIPE) as (process, port):
+        env = {**os.environ, "LD_PRELOAD": self.shim, **control}
+        with server(self.program, db, len(requests), may_end=True, env=env, stderr=subprocess.PIPE) as (process, port):
             answers = answers_until_the_end(process, port, requests)
             errors = process.communicate(timeout=LISTENS)[1].decode().replace(made_line(db), "", 1)
         return answers, process.returncode, errors
