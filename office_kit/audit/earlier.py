@@ -6,7 +6,7 @@ import datetime
 from collections.abc import Callable, Collection, Iterator
 
 from office_kit.audit.answers import Answers
-from office_kit.audit.office import TABLES, Found, Json, Office, Row, difference, rule, text_of
+from office_kit.audit.office import TABLES, Found, Json, Office, Row, differing, rule, text_of
 from office_kit.audit.releases import compiled_of, record_in, releases_in
 from office_kit.audit.rows import MOMENTS
 
@@ -136,10 +136,9 @@ def saved_notices_are_there(later: Later, office: Office | None, saved: Answers,
 def saved_releases_stay(later: Later, office: Office | None, saved: Answers, notice: str) -> Found:
     """Saved releases, alone or in a record, are still the first ones of their notice, unchanged."""
     package, record = saved.package(notice, "releases"), saved.package(notice, "record")
-    for kind, releases in (("releases", releases_in(package or {})), ("record", releases_in(record_in(record or {})))):
-        found = difference(later.releases(notice)[:len(releases)], releases) if notice in later.notices else None
-        if found:
-            yield f"notices {notice}", "its releases at {} have {}, and had {} in the {} of {}".format(*found, kind, saved.place)
+    for kind, before in (("releases", releases_in(package or {})), ("record", releases_in(record_in(record or {})))):
+        here = later.releases(notice)[:len(before)] if notice in later.notices else before
+        yield from differing(f"notices {notice}", here, before, "its releases at {} have {}, and had {} in the {} of {}", kind, saved.place)
 
 
 @rule("saved")
@@ -147,9 +146,9 @@ def saved_records_are_merges(later: Later, office: Office | None, saved: Answers
     """The compiled release of a saved record is the merge of its releases."""
     record = saved.package(notice, "record")
     if record is not None:
-        found = difference(record_in(record).get("compiledRelease"), compiled_of(releases_in(record_in(record))))
-        if found:
-            yield f"notices {notice}", "the compiled release of {} at {} is {}, and the merge of its releases {}".format(saved.place, *found)
+        due = compiled_of(releases_in(record_in(record)))
+        yield from differing(f"notices {notice}", record_in(record).get("compiledRelease"), due,
+                             "the compiled release of {3} at {0} is {1}, and the merge of its releases {2}", saved.place)
 
 
 @rule("saved")

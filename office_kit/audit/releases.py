@@ -6,7 +6,7 @@ from collections.abc import Callable, Iterable
 from typing import Any
 
 from office_kit.audit.answers import Answers
-from office_kit.audit.office import Found, Json, Office, difference, json_object, rule, text_of
+from office_kit.audit.office import Found, Json, Office, differing, json_object, rule, text_of
 
 TAGS = [["tenderAmendment"], ["tenderUpdate"], ["award"], ["awardCancellation"], ["tenderCancellation"], ["tenderCancellation", "awardCancellation"],
         ["contract"], ["contractAmendment"], ["implementation"], ["contractTermination"]]
@@ -215,9 +215,7 @@ def rows_have_their_releases(office: Office, notice: str, releases: list[Json]) 
 def merges_are_of_their_releases(office: Office, notice: str, releases: list[Json]) -> Found:
     """If a merge of a notice's releases is stored, it is their merge."""
     for text, in office.rows("SELECT text FROM compiled WHERE notice = ?", notice):
-        found = difference(json_object(text), merge_of(releases))
-        if found:
-            yield f"compiled {notice}", "at {} it has {}, and the merge of the releases {}".format(*found)
+        yield from differing(f"compiled {notice}", json_object(text), merge_of(releases), "at {} it has {}, and the merge of the releases {}")
 
 
 @rule("kept")
@@ -282,17 +280,15 @@ def record_in(package: Json) -> Json:
 @rule("answers")
 def answered_releases_are_kept(office: Office | None, answers: Answers, notice: str, package: Json, record: Json) -> Found:
     """The answered releases are those in the file."""
-    found = office and difference(package.get("releases"), office.releases(notice))
-    if found:
-        yield f"notices {notice}", "its releases at {} answer {}, and the file has {}".format(*found)
+    if office:
+        yield from differing(f"notices {notice}", package.get("releases"), office.releases(notice), "its releases at {} answer {}, and the file has {}")
 
 
 @rule("answers")
 def records_have_the_releases(office: Office | None, answers: Answers, notice: str, package: Json, record: Json) -> Found:
     """A record package has one record, with the notice's ocid and the releases of the release package."""
-    found = difference(record_in(record).get("releases"), package.get("releases"))
-    if found:
-        yield f"notices {notice}", "its record's releases at {} are {}, and its releases {}".format(*found)
+    yield from differing(f"notices {notice}", record_in(record).get("releases"), package.get("releases"),
+                         "its record's releases at {} are {}, and its releases {}")
     if any(release.get("ocid") != record_in(record).get("ocid") for release in releases_in(package)):
         yield f"notices {notice}", f"its record is of {record_in(record).get('ocid')}"
 
@@ -300,9 +296,8 @@ def records_have_the_releases(office: Office | None, answers: Answers, notice: s
 @rule("answers")
 def compiled_is_the_merge(office: Office | None, answers: Answers, notice: str, package: Json, record: Json) -> Found:
     """The compiled release of a record is the merge of the releases, under its own head."""
-    found = difference(record_in(record).get("compiledRelease"), compiled_of(releases_in(package)))
-    if found:
-        yield f"notices {notice}", "its compiled release at {} is {}, and the merge of the releases {}".format(*found)
+    yield from differing(f"notices {notice}", record_in(record).get("compiledRelease"), compiled_of(releases_in(package)),
+                         "its compiled release at {} is {}, and the merge of the releases {}")
 
 
 @rule("answers")
