@@ -53,7 +53,7 @@ PLANTS = [
     ("office_kit/mirror/events.py", "if now <= notice.row[\"deadline\"] else \"waiting\"", "", "waiting"),
     ("office_kit/mirror/notices.py", ".replace(\"<\", \"\\\\u003c\")", "", "pages"),
     ("office_kit/mirror/notices.py", "html.escape(str(given))", "str(given)", "pages"),
-    ("office_kit/mirror/events.py", "(\"implementation\", Teller.paid), ", "", "feeds"),
+    ("office_kit/mirror/events.py", "\"implementation\", \"contract\"", "\"contract\"", "feeds"),
     ("office_kit/mirror/feeds.py", " or state_of(one, now) == \"open\"", "", "many"),
     ("office_kit/mirror/feeds.py", "for tag in LANGUAGES]\n    parts", "for tag in [\"en\"]]\n    parts", "pages"),
     ("office_kit/mirror/columns.py", "(WHOLE, \"All points in", "(TIME, \"All points in", "dictionary"),
