@@ -1,15 +1,13 @@
-"""Offices that are served, each over a file, for tests, and servers that answer in the place of one."""
+"""Offices that are served, each over a file, for tests. (office_kit/front/office.py has servers that answer in the place of one.)"""
 import contextlib
-import http.server
 import os
 import subprocess
-import threading
 from collections.abc import Iterator
 from dataclasses import dataclass
 from typing import Any
 
 from office_kit.client import PATIENCE, Answer, Client, Port
-from office_kit.common import CONFIG, HOST, check, connect, free_port, running, serve_words
+from office_kit.common import CONFIG, check, connect, free_port, running, serve_words
 
 MANY = 1_000_000
 
@@ -54,26 +52,3 @@ class Serving(contextlib.ExitStack):
         office = self.enter_context(served(self.program, file or os.path.join(self.folder, f"office-{self.count}.db"), **how))
         connect(office.port, PATIENCE).close()
         return office
-
-
-class Handler(http.server.BaseHTTPRequestHandler):
-    """Answers a request, and prints nothing."""
-
-    def tell(self, status: int, body: bytes, **fields: str) -> None:
-        self.send_response(status)
-        for name, value in {**fields, "Content-Length": str(len(body))}.items():
-            self.send_header(name, value)
-        self.end_headers()
-        self.wfile.write(body)
-
-    def log_message(self, *_: object) -> None:
-        """Nothing is printed."""
-
-
-@contextlib.contextmanager
-def answered_by(handler: type[Handler]) -> Iterator[str]:
-    """The address of a server that answers so while this lasts."""
-    with http.server.ThreadingHTTPServer((HOST, free_port()), handler) as listener:
-        threading.Thread(target=listener.serve_forever, daemon=True).start()
-        yield f"http://{HOST}:{listener.server_port}"
-        listener.shutdown()
