@@ -50,6 +50,11 @@ def table_in(text: str) -> Table:
     return Table(found[1], record[1], own, columns)
 
 
+def tables() -> list[Table]:
+    """The tables of an office, in the order of their sources."""
+    return [table_in(text_of(path)) for path in sorted((ROOT / "crates/office_tables/src/tables").glob("*.rt"))]
+
+
 def references() -> Iterator[tuple[str, list[str], str]]:
     """(record, its columns, the record that these refer to) of each reference between rows."""
     looked_up = dict(LOOKS_UP.findall(text_of(ROOT / "crates/office_base/specs/Tables.antt")))
@@ -79,10 +84,9 @@ def node_of(table: Table, referring: list[str]) -> str:
 
 def tables_dot() -> str:
     """The source of the drawing. A table has no arrow to one that its row of another table leads to by the same column."""
-    tables = [table_in(text_of(path)) for path in sorted((ROOT / "crates/office_tables/src/tables").glob("*.rt"))]
-    name_of, found = {it.record: it.name for it in tables}, list(references())
+    name_of, found = {it.record: it.name for it in tables()}, list(references())
     lines, arrows = [], []
-    for table in tables:
+    for table in tables():
         referred = [(columns, name_of[other]) for record, columns, other in found if record == table.record]
         wider = {column for columns, _ in referred if len(columns) > 1 for column in columns}
         lines.append(node_of(table, list(dict.fromkeys(column for columns, _ in referred for column in columns))))
