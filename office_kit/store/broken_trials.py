@@ -130,7 +130,6 @@ class Trial(NamedTuple):
 
 # The commands that publish a release, and its notice. Two of them are also tried over notices of which only some releases are missing.
 PUBLISHING = {"amend_notice": "R", "cancel": "R", "open": "F", "award": "A", "fail": "W", "sign": "W", "raise": "C", "pay": "C", "end": "C"}
-GROUPS = {"each publication": [*PUBLISHING], "fail and pay": ["fail", "pay"]}
 
 
 def missing_rows() -> Iterator[Trial]:
@@ -162,5 +161,5 @@ def trials() -> Iterator[Trial]:
     yield from taken_keys()
     for (head,), script in scripts_of("broken_trials.sql"):
         group, what, *says = head.split(": ")
-        for command in GROUPS.get(group, [group]):
+        for command in PUBLISHING if group == "each publication" else group.split(" and "):
             yield Trial(f"{command}, {what}", command, script.replace("{notice}", PUBLISHING.get(command, "")), *says)
