@@ -19,7 +19,7 @@ from office_kit.audit.office import Json, Unreadable, json_object
 OF_NOTICES = {"releases": ".json", "record": ".json", "minutes": ".txt", "terms": ".json", "evaluation": ".txt", "register": ".txt"}
 HELD = ("receipt", "security", "performance", "contract")
 # The folders of a mirror.
-MIRRORED = {"record": "records", "minutes": "minutes", "terms": "terms", "evaluation": "evaluations"}
+MIRRORED = {"record": "records", "terms": "terms", "minutes": "minutes", "evaluation": "evaluations"}
 
 # The seconds to wait for one answer in all, the longest wait without `Retry-After`, and how often an office that can't answer is asked again.
 PATIENCE, LONGEST, AGAIN = 600, 30, 5
