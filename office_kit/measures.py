@@ -41,7 +41,6 @@ def options_with(text: str | None, beside: bool = False, **numbers: tuple[int | 
 
 
 def counts_of(text: str) -> list[int]:
-    """Numbers with commas between them."""
     return [int(word) for word in text.split(",")]
 
 
@@ -67,13 +66,11 @@ class Office:
         return int(Path(f"/proc/{self.process.pid}/schedstat").read_text().split()[0]) / 1e9
 
     def took(self, texts: Sequence[bytes]) -> float:
-        """The seconds of processor for each of these requests."""
         before = self.used()
         self.send(texts)
         return (self.used() - before) / len(texts)
 
     def median(self, rounds: int, texts: Sequence[bytes]) -> float:
-        """The same, in the median of some rounds."""
         return statistics.median(self.took(texts) for _ in range(rounds))
 
     def growth(self, texts: Sequence[bytes]) -> float:
@@ -97,7 +94,6 @@ class InFile(Office):
 
 
 def wait_for_answer(process: "subprocess.Popen[bytes]", port: int) -> None:
-    """Waits until a server has answered a first query."""
     while not what_came(port, look(b"/lines/none")):
         check_runs(process)
         time.sleep(0.01)
@@ -207,7 +203,6 @@ class Table:
 
 
 def medians(runs: Sequence[dict[str, float]]) -> dict[str, float]:
-    """The medians of the figures of some runs."""
     return {what: statistics.median(run[what] for run in runs) for what in runs[0]}
 
 

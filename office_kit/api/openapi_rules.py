@@ -65,7 +65,6 @@ def flaws_of_operations(tree: Any) -> Iterator[str]:
 
 
 def flaws_of(tree: Any) -> list[str]:
-    """The places where a document breaks the rules of OpenAPI 3.1."""
     error = best_match(jsonschema.Draft202012Validator(META).iter_errors(tree))
     if error:
         return [f"{error.json_path}: {error.message[:200]}"]

@@ -114,7 +114,6 @@ class Answers:
         return self.list if self.base else self.listed()
 
     def listed_names(self) -> list[str]:
-        """The notices of the list, if there is one."""
         return [str(it.get("notice")) for it in self.listed() or []]
 
     def has_looks(self) -> bool:
@@ -122,7 +121,6 @@ class Answers:
         return bool(self.base) and self.list is not None
 
     def terms(self, notice: str) -> Json | None:
-        """The terms of a notice that are answered, or None."""
         return self.package(notice, "terms")
 
     def contracts(self, numbers: list[int]) -> list[tuple[int, Json | None]]:
@@ -182,7 +180,6 @@ class Answers:
         return package
 
     def object(self, name: str) -> Json:
-        """The JSON object of a file of the folder."""
         value = json_object(self.saved(name) or "")
         if value is None:
             raise Unreadable(f"{os.path.join(self.folder, name)}: no JSON object")

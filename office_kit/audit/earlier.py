@@ -223,7 +223,6 @@ def paid_never_falls(here: str, before: str, place: str) -> Found:
 
 
 def appropriations_in(ledger: str) -> dict[str, int]:
-    """The appropriation of each line of a ledger."""
     return {line.split("\t")[0]: int(line.split("\t")[1]) for line in ledger.split("\n")[2:-1]}
 
 

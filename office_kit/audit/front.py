@@ -48,7 +48,6 @@ class Command(NamedTuple):
 
 
 def body_of(line: Line) -> Json | None:
-    """The JSON object in a line's body, or None."""
     return json_object(line.body.decode("utf-8", "surrogateescape"))
 
 

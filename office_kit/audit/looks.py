@@ -22,7 +22,6 @@ FINAL = OUTCOMES[1:]
 # ---- What is due by the rows.
 
 def listed_of(office: Office) -> dict[str, Json]:
-    """The list's entry for each notice, from the rows."""
     return {notice: {"amendments": row["amendments"], "deadline": text_of(row["deadline"]), "notice": notice, "opened": text_of(row["opened"]),
                      "published": text_of(row["published"]), "releases": row["releases"], "state": row["state"], "title": row["title"]}
             for (notice,), row in office.table("notices").items()}
@@ -34,7 +33,6 @@ def items_of(text: str) -> list[Json]:
 
 
 def terms_of(office: Office, notice: str) -> Json:
-    """The terms of a notice, by the rows."""
     row = office.table("notices")[(notice,)]
     lots = [{"estimate": estimate, "id": lot, "items": items_of(items), "line": line, "security": security, "state": state, "title": title}
             for lot, title, line, estimate, security, items, state in office.rows(
@@ -53,7 +51,6 @@ def may_win(finding: Any) -> bool:
 
 
 def line_of(finding: Any, weight: int, lowest: int) -> list[object]:
-    """The line of a tender."""
     receipt, tenderer, reading, price, responsive, quality, failed = finding
     if reading != "priced":
         return ["tender", receipt, tenderer, reading]
@@ -79,7 +76,6 @@ def evaluation_of(office: Office, notice: str, is_whole: bool = False) -> str | 
 
 
 def contract_of(office: Office, contract: int) -> Json | None:
-    """The answer about a contract, from the rows, or None."""
     row = office.table("contracts").get((contract,))
     if row is None:
         return None

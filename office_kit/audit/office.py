@@ -233,5 +233,4 @@ class Office:
         return [value for value in values if value is not None]
 
     def has_changed(self) -> bool:
-        """Whether somebody wrote to the file since it was copied."""
         return stamp(self.path) != self.stamp

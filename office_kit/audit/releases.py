@@ -355,7 +355,6 @@ def ledger_is_of_the_rows(office: Office | None, text: str) -> Found:
 
 
 def ledger_of(office: Office) -> str:
-    """The ledger, by the rows."""
     head = [("LEDGER",), ("line", "appropriation", "free", "reserved", "contracted", "paid")]
     return text_with(head + office.rows("SELECT line, appropriation, free, reserved, contracted, paid FROM pots ORDER BY line"))
 

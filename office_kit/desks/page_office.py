@@ -20,7 +20,6 @@ SECURITY = "GUARANTEE-77"
 
 
 def mirror(office: str, folder: str, *options: str, **environment: str) -> None:
-    """The mirror of an office, in a folder."""
     ran = subprocess.run([f"{ROOT}/tools/mirror", office, folder, *options], env={**os.environ, **environment}, capture_output=True, text=True)
     assert ran.returncode == 0, ran.stderr
 
@@ -59,7 +58,6 @@ class Procurements(Client[Answer]):
         self.cancel("N4", "The library <i>got</i> them as a gift")
 
     def after_the_deadline(self) -> None:
-        """The openings, and the further steps of the opened notices."""
         wait_until(self.deadline + 1.05)
         for name in ("N1", "N2", "N5", "N6"):
             self.open(name)

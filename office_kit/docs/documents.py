@@ -75,12 +75,10 @@ def parts_of(path: str) -> tuple[list[re.Match[str]], str]:
 
 
 def inside(block: re.Match[str]) -> str:
-    """The text of a fenced block, without the indent of its fence."""
     return re.sub(rf"^ {{0,{len(block[1])}}}", "", block[4], flags=re.M).removesuffix("\n")
 
 
 def steps_of(path: str) -> list[Step]:
-    """The blocks of a document that are run."""
     blocks, _ = parts_of(path)
     steps = []
     for block, after in zip(blocks, [*blocks[1:], None]):
@@ -178,7 +176,6 @@ def links_of(path: str) -> Iterator[tuple[int, str]]:
 
 
 def check_link(path: str, line: int, target: str) -> None:
-    """Checks that the file of a link exists, and its anchor."""
     place, _, anchor = target.partition("#")
     file = os.path.normpath(os.path.join(os.path.dirname(path), place)) if place else path
     if place.startswith("/") or file.startswith("..") or not os.path.exists(os.path.join(ROOT, file)):

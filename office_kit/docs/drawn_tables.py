@@ -40,7 +40,6 @@ class Table(NamedTuple):
 
 
 def table_in(text: str) -> Table:
-    """The table that a source creates."""
     found, record = CREATE.search(text), RECORD.search(text)
     if not found or not record:
         raise Fault("crates/office_tables/src/tables: a source without a CREATE or a record")

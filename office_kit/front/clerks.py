@@ -28,7 +28,6 @@ def adapted(*changes: Iterable[Change]) -> dict[str, str]:
 
 
 def basic(name: str, password: str) -> str:
-    """The field of the head of a name and a password."""
     return "Basic " + base64.b64encode(f"{name}:{password}".encode()).decode()
 
 
@@ -78,5 +77,4 @@ class Signing:
         certify(f"{self.folder}/{name}", subject or f"/CN={name}", by and f"{self.folder}/{by}")
 
     def fields(self, name: str) -> dict[str, str]:
-        """The fields of the head by which a clerk signs in."""
         return {"Authorization": basic(name, self.passwords.get(name, "wrong"))} if self.way == "password" and name else {}

@@ -17,8 +17,6 @@ Told = tuple[int, bytes, Mapping[str, str]]
 
 
 class Request(NamedTuple):
-    """A request that came."""
-
     method: str
     path: str
     head: dict[str, str]
@@ -26,8 +24,6 @@ class Request(NamedTuple):
 
 
 class Handler(http.server.BaseHTTPRequestHandler):
-    """A request, which the server answers."""
-
     server: "StandIn"
 
     def do_GET(self) -> None:

@@ -84,7 +84,6 @@ def time_of(language: str, text: str, is_day: bool = False) -> str:
 
 
 def lots_told(language: str, compiled: Json, names: Iterable[str]) -> str:
-    """Lots, by identifier and title."""
     titles = {lot["id"]: lot.get("title") for lot in compiled["tender"]["lots"]}
     told = [f"{name} ({titles[name]})" if titles.get(name) else name for name in names]
     return f"{say(language, 'see.lots', count=len(told))} {', '.join(told)}"

@@ -83,7 +83,6 @@ class Office:
         return text
 
     def notices(self) -> list[Json]:
-        """All notices of the list."""
         found = self.answers.listed()
         if found is None:
             raise Unreadable(f"{self.base}/notices: the office has no such page")
@@ -147,6 +146,5 @@ def saved(*path: str) -> str | None:
 
 
 def texts_in(folder: str, name: str) -> dict[str, str]:
-    """The answers about a notice that a mirror has, by their folders."""
     texts = {kind: saved(folder, kind, name + end) for kind, end in KEPT.items()}
     return {kind: text for kind, text in texts.items() if text is not None}

@@ -133,7 +133,6 @@ PUBLISHING = {"amend_notice": "R", "cancel": "R", "open": "F", "award": "A", "fa
 
 
 def missing_rows() -> Iterator[Trial]:
-    """Each command without each row that its own row leads to."""
     for command, (own, where, needed) in NEEDS.items():
         found = {own: where}
         while more := {parent: f"({KEYS[parent]}) IN (SELECT {columns} FROM {child} WHERE {found[child]})"

@@ -135,7 +135,6 @@ class AuditedLife(Life):
         self.announce("N8", self.deadline, part("L1", "1000", 100, 10), late_withdrawal="forfeits", performance=5)
 
     def after_the_deadline(self) -> None:
-        """Late tenders, the openings, and the further steps of each notice."""
         self.wait()
         self.submit("late", "T5", "N1", "L1", offer(1, 1), 50)
         for name in ("N1", "N2", "N4", "N6", "N7", "N8"):

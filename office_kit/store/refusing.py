@@ -6,7 +6,6 @@ from office_kit.gate.transcripts import topics
 
 
 def refusing(folder: str) -> str:
-    """The library, made in a folder."""
     return made_shim("store/refusing.c", folder)
 
 
