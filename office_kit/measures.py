@@ -8,7 +8,7 @@ import statistics
 import subprocess
 import tempfile
 import time
-from collections.abc import Callable, Iterator, Sequence
+from collections.abc import Iterator, Sequence
 from pathlib import Path
 from typing import Any
 
@@ -246,20 +246,15 @@ def tell_one_input(choice: argparse.Namespace, blocks: Sequence[bytes]) -> float
 Phase = tuple[str, str, Sequence[bytes]]
 
 
-def run_phases(office: Office, phases: Sequence[Phase], set_moment: Callable[[str], None]) -> dict[str, float]:
+def run_in_memory(program: str, phases: Sequence[Phase]) -> dict[str, float]:
     """Sends the requests phase by phase. For each kind: the processor time of a request, and that of the last tenth to that of the first."""
     found: dict[str, float] = {}
-    for kind, moment, texts in phases:
-        set_moment(moment)
-        before = office.used()
-        growth = office.growth(texts)
-        found |= {f"{kind}, microseconds": (office.used() - before) / len(texts) * 1e6, f"{kind}, last tenth to first": growth}
-    return found
-
-
-def run_in_memory(program: str, phases: Sequence[Phase]) -> dict[str, float]:
     with in_memory(program) as office:
-        return run_phases(office, phases, lambda moment: setattr(office, "moment", moment))
+        for kind, moment, texts in phases:
+            office.moment, before = moment, office.used()
+            growth = office.growth(texts)
+            found |= {f"{kind}, microseconds": (office.used() - before) / len(texts) * 1e6, f"{kind}, last tenth to first": growth}
+    return found
 
 
 def tell_phases(choice: argparse.Namespace, phases: Sequence[Phase]) -> tuple[dict[str, float], float]:
