@@ -7,10 +7,10 @@ import time
 import tomllib
 from pathlib import Path
 
-from office_kit.client import AHEAD, Answer, Asking, Client, ahead, budget, lot, notice, tender, text_of, wait_until
+from office_kit.client import ahead, budget, lot, notice, tender, text_of, wait_until
 from office_kit.common import HOST, ROOT, fail
 from office_kit.front.nginx import Front
-from office_kit.store.life import key_of
+from office_kit.store.life import Life
 
 OFFICE = tomllib.loads(Path(__file__).with_name("page_office.toml").read_text(encoding="utf-8"))
 # A title that is a script.
@@ -29,12 +29,8 @@ def mirror_beside(front: Front) -> None:
     mirror(f"http://{HOST}:{front.office}", f"{front.folder}/mirror/data", "--base", front.address().rstrip("/"))
 
 
-class Procurements(Client[Answer]):
+class Procurements(Life):
     """Requests through the front, each of which must be accepted."""
-
-    def __init__(self, transport: Asking) -> None:
-        super().__init__(transport, key_of)
-        self.deadline = int(time.time()) + AHEAD
 
     def before_the_deadline(self) -> None:
         """The budget, the tenderers, all notices and tenders; one is cancelled, and one stays open for a day."""

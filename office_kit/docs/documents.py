@@ -20,9 +20,8 @@ from dataclasses import dataclass
 from pathlib import Path
 
 from office_kit.common import ROOT, files_below
+from office_kit.needs import TOOLS
 
-# The tools that documents use, each with the package of Debian that has it. Tools that every Debian has aren't listed.
-TOOLS = {"curl": "curl", "sqlite3": "sqlite3", "jq": "jq", "openssl": "openssl", "xxd": "xxd", "lslocks": "util-linux", "git": "git", "python3": "python3"}
 # The commands besides `procure` that blocks find on the PATH.
 COMMANDS = {"procure-backup": "deploy/backup.sh", "procure-check": "deploy/check", "audit": "tools/audit", "check_tender": "tools/check_tender"}
 # The seconds that a block may take.

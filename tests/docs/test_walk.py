@@ -9,6 +9,7 @@ import pytest
 from office_kit.common import FIELDS, free_port, need
 from office_kit.docs import documents
 from office_kit.front.office import StandIn
+from office_kit.needs import TOOLS
 
 WALK = "README.md"
 PORT = re.compile(r"^port=\d+$", re.M)
@@ -34,7 +35,7 @@ def steps_at(port):
         found += count
     assert found == 1 and any(step.shown for step in steps)
     for tool in documents.missing_tools(steps):
-        need(tool, documents.TOOLS[tool])
+        need(tool, TOOLS[tool])
     return steps
 
 
