@@ -7,10 +7,7 @@
 -- what was handed out: saved_notices_are_there notices N7
 -- an earlier copy: rows_of_an_earlier_copy_stay notices N7
 -- the log of the clerks: lines_have_a_command front /notices/N7
-DELETE FROM releases WHERE notice = 'N7';
-DELETE FROM compiled WHERE notice = 'N7';
-DELETE FROM lots WHERE notice = 'N7';
-DELETE FROM notices_2 WHERE notice = 'N7';
+{without_N7}
 UPDATE releases SET rowid = (SELECT count(*) FROM releases AS upto WHERE upto.rowid <= releases.rowid);
 UPDATE compiled SET rowid = (SELECT count(*) FROM compiled AS upto WHERE upto.rowid <= compiled.rowid);
 UPDATE lots SET rowid = (SELECT count(*) FROM lots AS upto WHERE upto.rowid <= lots.rowid);

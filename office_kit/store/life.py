@@ -93,7 +93,8 @@ class AuditedLife(Life):
 
     def names(self) -> dict[str, object]:
         moments = {name: text_of(self.deadline + later) for name, later in (("moved", 90_000), ("further", 180_000), ("start", 20_000_000))}
-        return {**super().names(), "active": self.active, "in_time": self.deadline - 1, **moments}
+        without = "\n".join(f"DELETE FROM {table} WHERE notice = 'N7';" for table in ("releases", "compiled", "lots", "notices_2"))
+        return {**super().names(), "active": self.active, "in_time": self.deadline - 1, "without_N7": without, **moments}
 
     def before_the_deadline(self) -> None:
         """The budget, the tenderers, eight notices and their tenders. N3 is cancelled, N5 continues to receive, and tenders for N8 may be withdrawn late."""
