@@ -33,10 +33,8 @@ def seconds_of(retry_after: str | None, tried: int, now: Callable[[], float] = t
     text = (retry_after or "").strip()
     if re.fullmatch(r"[0-9]{1,9}", text):
         return int(text)
-    try:
-        return max(0.0, email.utils.parsedate_to_datetime(text).timestamp() - now())
-    except (TypeError, ValueError, OverflowError):
-        return float(min(LONGEST, 1 << tried))
+    moment = moment_in(text)
+    return float(min(LONGEST, 1 << tried)) if moment is None else max(0.0, moment - now())
 
 
 def moment_in(field: str | None) -> float | None:

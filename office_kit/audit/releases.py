@@ -359,9 +359,9 @@ def ledger_of(office: Office) -> str:
     return text_with(head + office.rows("SELECT line, appropriation, free, reserved, contracted, paid FROM pots ORDER BY line"))
 
 
-def unlike(row: str, text: str, due: str) -> Found:
-    """A finding if a text isn't the expected one."""
+def unlike(row: str, text: str, due: str, told: str = "line {} of the answer is {}, and the file says {}", *more: str) -> Found:
+    """A finding if a text isn't the expected one. Its words have braces for the first line that differs, for both lines, and for more."""
     lines, wanted = text.split("\n"), due.split("\n")
     if lines != wanted:
         place = next((place for place, (here, there) in enumerate(zip(lines, wanted)) if here != there), min(len(lines), len(wanted)))
-        yield row, f"line {place + 1} of the answer is {lines[place:place + 1]}, and the file says {wanted[place:place + 1]}"
+        yield row, told.format(place + 1, lines[place:place + 1], wanted[place:place + 1], *more)

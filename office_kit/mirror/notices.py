@@ -22,10 +22,9 @@ nav { display: flex; flex-wrap: wrap; gap: 0 1.25rem; }
 """
 # The words of these pages that no screen has.
 WORDS = {"en": {"item": "Item", "quantity": "Quantity", "sum": "Sum after corrections", "portal": "This procurement in the portal", "record": "Record (OCDS)",
-                "terms": "Terms", "minutes": "Minutes of the opening", "evaluation": "Evaluation", "data": "Open data", "what": "What", "value": "Entry"},
+                "terms": "Terms", "minutes": "Minutes of the opening", "evaluation": "Evaluation", "data": "Open data", "what": "What"},
          "de": {"item": "Posten", "quantity": "Menge", "sum": "Summe nach Berichtigung", "portal": "Diese Vergabe im Portal", "record": "Datensatz (OCDS)",
-                "terms": "Bedingungen", "minutes": "Niederschrift der Öffnung", "evaluation": "Wertung", "data": "Offene Daten", "what": "Was",
-                "value": "Angabe"}}
+                "terms": "Bedingungen", "minutes": "Niederschrift der Öffnung", "evaluation": "Wertung", "data": "Offene Daten", "what": "Was"}}
 # The most letters of a description that a search engine or a preview shows.
 MOST = 300
 

@@ -119,12 +119,10 @@ def lot_rows(notice: Notice) -> Iterator[Json]:
     for lot in notice.terms["lots"]:
         award, contract = awards.get(lot["id"], {}), contracts.get(lot["id"], {})
         count = sum(row["lot"] == lot["id"] for row in tenders) if "minutes" in notice.texts else None
-        yield {"notice": notice.name, "lot": lot["id"], "title": lot["title"], "line": lot["line"], "currency": currency_of(notice),
-               "estimate": lot["estimate"], "security": lot["security"], "status": status[lot["id"]], "items": len(lot["items"]), "tenders": count,
-               "winner": award.get("tenderer"),
-               "winner_name": award.get("name"), "price": award.get("price"), "contract": contract.get("contract"),
-               "contract_status": contract.get("status"), "worth": contract.get("worth"),
-               "paid": contract.get("paid")}
+        yield {"notice": notice.name, "lot": lot["id"], **{name: lot[name] for name in ("title", "line", "estimate", "security")},
+               "currency": currency_of(notice), "status": status[lot["id"]], "items": len(lot["items"]), "tenders": count, "winner": award.get("tenderer"),
+               "winner_name": award.get("name"), "price": award.get("price"), "contract_status": contract.get("status"),
+               **{name: contract.get(name) for name in ("contract", "worth", "paid")}}
 
 
 def item_rows(notice: Notice) -> Iterator[Json]:
