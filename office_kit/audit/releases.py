@@ -158,29 +158,6 @@ def facts_told(merge: Json) -> dict[str, Any]:
 
 # ---- Rules of the releases that the file keeps.
 
-@rule("file")
-def releases_are_counted(office: Office) -> Found:
-    """The notice's count of releases is one each for publication, opening, cancellation, amendment, award, lot without winner, failing, signing, entry, end."""
-    yield from office.find("notices", """
-        WITH counted AS (SELECT notice, 1 + amendments + (state = 'opened')
-            + (SELECT count(*) + count(*) FILTER (WHERE state = 'failed') FROM awards AS a WHERE a.notice = n.notice)
-            + (SELECT count(*) FILTER (WHERE state = 'unsuccessful') + coalesce(max(state = 'cancelled'), 0) FROM lots AS l WHERE l.notice = n.notice)
-            + (SELECT count(*) + count(ended) FROM contracts AS c WHERE c.notice = n.notice)
-            + (SELECT count(*) FROM contracts AS c JOIN entries AS e ON e.contract = c.contract WHERE c.notice = n.notice) AS due FROM notices AS n)
-        SELECT notice, printf('counts %d releases, and its rows tell of %d', releases, due) FROM notices JOIN counted USING (notice) WHERE releases <> due""")
-
-
-@rule("file")
-def releases_are_numbered(office: Office) -> Found:
-    """Each notice has exactly the releases from 1 to its count."""
-    yield from office.find("releases", """
-        WITH RECURSIVE number(n) AS (SELECT 1 UNION ALL SELECT n + 1 FROM number WHERE n < (SELECT max(releases) FROM notices))
-        SELECT notice, n, 'is missing' FROM notices AS i JOIN number ON n <= releases
-        WHERE NOT EXISTS (SELECT 1 FROM releases AS r WHERE r.notice = i.notice AND seq = n)
-        UNION ALL SELECT r.notice, seq, 'is above the count of its notice' FROM releases AS r JOIN notices AS i ON i.notice = r.notice
-        WHERE seq > i.releases""")
-
-
 @rule("kept")
 def kept_texts_are_releases(office: Office, notice: str, releases: list[Json]) -> Found:
     """The text of a stored release is a JSON object, dated by its row's moment."""
