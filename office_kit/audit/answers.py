@@ -73,10 +73,9 @@ class Answers:
 
     def names(self, kind: str, end: str) -> list[str]:
         """The words after `kind-` in the names of the folder's files."""
-        if self.is_mirror and kind in MIRRORED:
-            return sorted(os.path.basename(path)[:-len(end)] for path in glob.glob(os.path.join(glob.escape(self.folder), MIRRORED[kind], f"*{end}")))
-        paths = glob.glob(os.path.join(glob.escape(self.folder), f"{kind}-*{end}")) if self.folder else []
-        return sorted(os.path.basename(path)[len(kind) + 1:-len(end)] for path in paths)
+        before = self.path_of(f"{kind}-")
+        paths = glob.glob(f"{glob.escape(before)}*{end}") if self.folder else []
+        return sorted(path[len(before):-len(end)] for path in paths)
 
     def notices(self) -> list[str]:
         """The notices of which the folder has anything."""

@@ -73,11 +73,8 @@ class Office:
     def __init__(self, base: str) -> None:
         self.base, self.answers = base.rstrip("/"), Answers(None, base.rstrip("/"))
 
-    def ask(self, path: str) -> str | None:
-        return self.answers.ask(path)
-
     def must(self, path: str) -> str:
-        text = self.ask(path)
+        text = self.answers.ask(path)
         if text is None:
             raise Unreadable(f"{self.base}{path}: the office has no such page")
         return text
@@ -96,7 +93,7 @@ class Office:
         """A notice, fetched so that its record has at least as many releases as the list says."""
         name = row["notice"]
         for _ in range(TRIES):
-            texts = {folder: self.ask(f"/notices/{name}/{kind}") for kind, folder in MIRRORED.items()}
+            texts = {folder: self.answers.ask(f"/notices/{name}/{kind}") for kind, folder in MIRRORED.items()}
             if texts["records"] is None or texts["terms"] is None:
                 raise Unreadable(f"{self.base}: {name} is in the list but has no record or no terms")
             found = Notice(row, now(), {folder: text for folder, text in texts.items() if text is not None})
