@@ -51,9 +51,6 @@ class Life(Client[Answer]):
         """Presents a tender, with a security of its name if an amount is given."""
         self.keep(named, self.present(who, name, lot_name, body, named if amount else None, amount))
 
-    def resubmit(self, named: str, who: str, old: str, body: str) -> None:
-        self.keep(named, self.modify(who, self.receipt[old], body))
-
     def keep(self, named: str, answer: Answer) -> None:
         self.receipt[named] = answer["receipt"]
         self.kept[answer["receipt"]] = answer
@@ -106,7 +103,7 @@ class AuditedLife(Life):
         self.submit("taken", "T3", "N1", "L1", offer(80, 20), 50)
         self.submit("quoted", "T4", "N1", "L1", '"' + offer(1, 1), 50)
         self.submit("nothing", "T1", "N1", "L2", "I offer nothing")
-        self.resubmit("cheap", "T2", "first", offer(80, 30))
+        self.keep("cheap", self.modify("T2", self.receipt["first"], offer(80, 30)))
         self.take_back("T3", "taken")
         self.submit("other", "T3", "N1", "L1", offer(80), 55)
         for named, who, price in (("low", "T1", 20), ("high", "T2", 25), ("unfit", "T3", 10)):
