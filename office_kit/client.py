@@ -50,7 +50,6 @@ def ahead(begun: float, times: int) -> int:
 
 
 def wait_until(second: float) -> None:
-    """Waits for a second of this machine's clock."""
     time.sleep(max(0.0, second - time.time()))
 
 
@@ -201,7 +200,6 @@ class Client(Generic[Told]):
         self.transport, self.key_of = transport, key_of
 
     def caller_of(self, who: str) -> Caller:
-        """The name and the key of the clerk, or of a tenderer."""
         return CLERK if who == "clerk" else (who.encode(), self.key_of(who).encode())
 
     def command(self, who: str, target: str, body: Body = "") -> Told:

@@ -154,7 +154,6 @@ def parts_of(stream: bytes) -> list[bytes]:
 
 
 def is_whole(response: bytes) -> bool:
-    """Whether a response of status 200 is complete."""
     head, _, body = response.partition(b"\r\n\r\n")
     return head.startswith(OK) and b"\r\nContent-Length: %d\r\n" % len(body) in head + b"\r\n"
 
@@ -220,7 +219,6 @@ def unread(port: int) -> list[int]:
 
 
 def read_all(stream: socket.socket) -> bytes:
-    """Everything until the server closes the connection."""
     return b"".join(iter(functools.partial(stream.recv, 1 << 16), b""))
 
 
@@ -253,7 +251,6 @@ def timed_exchange(port: int, text: bytes, patience: float = 0) -> tuple[bytes, 
 
 
 def serve_words(program: str, file: str, port: int | str, count: int | str, settings: str = CONFIG) -> list[str]:
-    """The command line of a server over a file."""
     return [program, "serve", settings, file, str(port), str(count)]
 
 

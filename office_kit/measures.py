@@ -8,7 +8,7 @@ import statistics
 import subprocess
 import tempfile
 import time
-from collections.abc import Callable, Iterator, Sequence
+from collections.abc import Iterator, Sequence
 from pathlib import Path
 from typing import Any
 
@@ -41,7 +41,6 @@ def options_with(text: str | None, beside: bool = False, **numbers: tuple[int | 
 
 
 def counts_of(text: str) -> list[int]:
-    """Numbers with commas between them."""
     return [int(word) for word in text.split(",")]
 
 
@@ -67,13 +66,11 @@ class Office:
         return int(Path(f"/proc/{self.process.pid}/schedstat").read_text().split()[0]) / 1e9
 
     def took(self, texts: Sequence[bytes]) -> float:
-        """The seconds of processor for each of these requests."""
         before = self.used()
         self.send(texts)
         return (self.used() - before) / len(texts)
 
     def median(self, rounds: int, texts: Sequence[bytes]) -> float:
-        """The same, in the median of some rounds."""
         return statistics.median(self.took(texts) for _ in range(rounds))
 
     def growth(self, texts: Sequence[bytes]) -> float:
@@ -97,7 +94,6 @@ class InFile(Office):
 
 
 def wait_for_answer(process: "subprocess.Popen[bytes]", port: int) -> None:
-    """Waits until a server has answered a first query."""
     while not what_came(port, look(b"/lines/none")):
         check_runs(process)
         time.sleep(0.01)
@@ -207,7 +203,6 @@ class Table:
 
 
 def medians(runs: Sequence[dict[str, float]]) -> dict[str, float]:
-    """The medians of the figures of some runs."""
     return {what: statistics.median(run[what] for run in runs) for what in runs[0]}
 
 
@@ -251,20 +246,15 @@ def tell_one_input(choice: argparse.Namespace, blocks: Sequence[bytes]) -> float
 Phase = tuple[str, str, Sequence[bytes]]
 
 
-def run_phases(office: Office, phases: Sequence[Phase], set_moment: Callable[[str], None]) -> dict[str, float]:
+def run_in_memory(program: str, phases: Sequence[Phase]) -> dict[str, float]:
     """Sends the requests phase by phase. For each kind: the processor time of a request, and that of the last tenth to that of the first."""
     found: dict[str, float] = {}
-    for kind, moment, texts in phases:
-        set_moment(moment)
-        before = office.used()
-        growth = office.growth(texts)
-        found |= {f"{kind}, microseconds": (office.used() - before) / len(texts) * 1e6, f"{kind}, last tenth to first": growth}
-    return found
-
-
-def run_in_memory(program: str, phases: Sequence[Phase]) -> dict[str, float]:
     with in_memory(program) as office:
-        return run_phases(office, phases, lambda moment: setattr(office, "moment", moment))
+        for kind, moment, texts in phases:
+            office.moment, before = moment, office.used()
+            growth = office.growth(texts)
+            found |= {f"{kind}, microseconds": (office.used() - before) / len(texts) * 1e6, f"{kind}, last tenth to first": growth}
+    return found
 
 
 def tell_phases(choice: argparse.Namespace, phases: Sequence[Phase]) -> tuple[dict[str, float], float]:

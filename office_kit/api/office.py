@@ -35,8 +35,6 @@ def award_of(tree: Any) -> Any:
 
 
 class Operation:
-    """The operation of a path and a method."""
-
     def __init__(self, document: "Document", template: str, method: str, item: dict[str, Any]) -> None:
         node = item[method]
         self.name, self.template, self.method, self.node, self.callers = node["operationId"], template, method.upper(), node, node["x-callers"]
@@ -54,7 +52,6 @@ class Operation:
         self.needs_body: bool = asked.get("required", False)
 
     def target(self, place: Iterable[object], query: str = "") -> str:
-        """The target of a request for these things."""
         return shape(self.template).format(*place) + query
 
 
@@ -93,7 +90,6 @@ class Document:
                     yield name, status, part["$ref"].split("/")[-1], word
 
     def number(self, refusal: str) -> int:
-        """The number of a refusal."""
         return int(self.tree["components"]["schemas"][refusal]["properties"]["refusal"]["const"])
 
 

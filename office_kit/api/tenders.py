@@ -46,7 +46,6 @@ def lines(*parts: str, end: str = "\n", last: str = "\n") -> bytes:
 
 
 def file_of(form: str | list[str]) -> bytes:
-    """A file of forms.toml."""
     return form.encode() if isinstance(form, str) else lines(*(TEXTS.get(line, line) for line in form))
 
 
@@ -138,7 +137,6 @@ def known() -> list[Case]:
 
 
 def lot_of(kind: int) -> dict[str, Any]:
-    """The lot of a kind, as a notice's publication has it."""
     items = [{"id": item, "title": "x", "quantity": quantity} for item, quantity in KINDS[kind]]
     return {"id": f"K{kind}", "title": "x", "line": "1000", "estimate": 1, "security": 0, "items": items}
 

@@ -15,6 +15,8 @@ from office_kit.client import AHEAD, HEAD, Client, Port, lot, notice, text_of, w
 
 SECONDS = AHEAD + 2
 HEADS = {"import": HEAD, "present": "item,quantity,unit,total\n"}
+# A range, and further numbers or ranges after commas.
+RANGES = re.compile(r"\d+\.\.\d+(?:,\d+(?:\.\.\d+)?)*")
 PAVING = lot("L1", "2000", 600, 50)
 # Texts that are too long for the rows: parts of bodies at their bounds and above.
 LONG = {
@@ -29,9 +31,10 @@ def rows_of(section: str, names: dict[str, str]) -> Iterator[list[str]]:
     """The columns of each row of a section."""
     text = Path(__file__).with_suffix(".txt").read_text(encoding="utf-8").partition(f"\n== {section}\n")[2].partition("\n\n")[0]
     for line in re.findall(r"^[^#].*", text, re.M):
-        found = re.search(r"(\d+)\.\.(\d+)", line)
-        for number in range(int(found[1]), int(found[2]) + 1) if found else [0]:
-            columns = re.split("  +", re.sub(r"\d+\.\.\d+", str(number), line))
+        found = RANGES.search(line)
+        parts = [part.partition("..") for part in found[0].split(",")] if found else []
+        for number in [it for first, _, last in parts for it in range(int(first), int(last or first) + 1)] or [0]:
+            columns = re.split("  +", RANGES.sub(str(number), line))
             yield [Template(column).substitute(names) for column in columns]
 
 

@@ -19,7 +19,7 @@ from office_kit.audit.office import Json, Unreadable, json_object
 OF_NOTICES = {"releases": ".json", "record": ".json", "minutes": ".txt", "terms": ".json", "evaluation": ".txt", "register": ".txt"}
 HELD = ("receipt", "security", "performance", "contract")
 # The folders of a mirror.
-MIRRORED = {"record": "records", "minutes": "minutes", "terms": "terms", "evaluation": "evaluations"}
+MIRRORED = {"record": "records", "terms": "terms", "minutes": "minutes", "evaluation": "evaluations"}
 
 # The seconds to wait for one answer in all, the longest wait without `Retry-After`, and how often an office that can't answer is asked again.
 PATIENCE, LONGEST, AGAIN = 600, 30, 5
@@ -33,10 +33,8 @@ def seconds_of(retry_after: str | None, tried: int, now: Callable[[], float] = t
     text = (retry_after or "").strip()
     if re.fullmatch(r"[0-9]{1,9}", text):
         return int(text)
-    try:
-        return max(0.0, email.utils.parsedate_to_datetime(text).timestamp() - now())
-    except (TypeError, ValueError, OverflowError):
-        return float(min(LONGEST, 1 << tried))
+    moment = moment_in(text)
+    return float(min(LONGEST, 1 << tried)) if moment is None else max(0.0, moment - now())
 
 
 def moment_in(field: str | None) -> float | None:
@@ -75,10 +73,9 @@ class Answers:
 
     def names(self, kind: str, end: str) -> list[str]:
         """The words after `kind-` in the names of the folder's files."""
-        if self.is_mirror and kind in MIRRORED:
-            return sorted(os.path.basename(path)[:-len(end)] for path in glob.glob(os.path.join(glob.escape(self.folder), MIRRORED[kind], f"*{end}")))
-        paths = glob.glob(os.path.join(glob.escape(self.folder), f"{kind}-*{end}")) if self.folder else []
-        return sorted(os.path.basename(path)[len(kind) + 1:-len(end)] for path in paths)
+        before = self.path_of(f"{kind}-")
+        paths = glob.glob(f"{glob.escape(before)}*{end}") if self.folder else []
+        return sorted(path[len(before):-len(end)] for path in paths)
 
     def notices(self) -> list[str]:
         """The notices of which the folder has anything."""
@@ -114,7 +111,6 @@ class Answers:
         return self.list if self.base else self.listed()
 
     def listed_names(self) -> list[str]:
-        """The notices of the list, if there is one."""
         return [str(it.get("notice")) for it in self.listed() or []]
 
     def has_looks(self) -> bool:
@@ -122,7 +118,6 @@ class Answers:
         return bool(self.base) and self.list is not None
 
     def terms(self, notice: str) -> Json | None:
-        """The terms of a notice that are answered, or None."""
         return self.package(notice, "terms")
 
     def contracts(self, numbers: list[int]) -> list[tuple[int, Json | None]]:
@@ -182,7 +177,6 @@ class Answers:
         return package
 
     def object(self, name: str) -> Json:
-        """The JSON object of a file of the folder."""
         value = json_object(self.saved(name) or "")
         if value is None:
             raise Unreadable(f"{os.path.join(self.folder, name)}: no JSON object")

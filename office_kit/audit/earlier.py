@@ -6,8 +6,8 @@ import datetime
 from collections.abc import Callable, Collection, Iterator
 
 from office_kit.audit.answers import Answers
-from office_kit.audit.office import TABLES, Found, Json, Office, Row, difference, rule, text_of
-from office_kit.audit.releases import compiled_of, record_in, releases_in
+from office_kit.audit.office import TABLES, Found, Json, Office, Row, differing, rule, text_of
+from office_kit.audit.releases import compiled_of, record_in, releases_in, unlike
 from office_kit.audit.rows import MOMENTS
 
 # A day after all others. And by how many seconds the clock of the person who saved a ledger may differ from the office's.
@@ -136,10 +136,9 @@ def saved_notices_are_there(later: Later, office: Office | None, saved: Answers,
 def saved_releases_stay(later: Later, office: Office | None, saved: Answers, notice: str) -> Found:
     """Saved releases, alone or in a record, are still the first ones of their notice, unchanged."""
     package, record = saved.package(notice, "releases"), saved.package(notice, "record")
-    for kind, releases in (("releases", releases_in(package or {})), ("record", releases_in(record_in(record or {})))):
-        found = difference(later.releases(notice)[:len(releases)], releases) if notice in later.notices else None
-        if found:
-            yield f"notices {notice}", "its releases at {} have {}, and had {} in the {} of {}".format(*found, kind, saved.place)
+    for kind, before in (("releases", releases_in(package or {})), ("record", releases_in(record_in(record or {})))):
+        here = later.releases(notice)[:len(before)] if notice in later.notices else before
+        yield from differing(f"notices {notice}", here, before, "its releases at {} have {}, and had {} in the {} of {}", kind, saved.place)
 
 
 @rule("saved")
@@ -147,19 +146,17 @@ def saved_records_are_merges(later: Later, office: Office | None, saved: Answers
     """The compiled release of a saved record is the merge of its releases."""
     record = saved.package(notice, "record")
     if record is not None:
-        found = difference(record_in(record).get("compiledRelease"), compiled_of(releases_in(record_in(record))))
-        if found:
-            yield f"notices {notice}", "the compiled release of {} at {} is {}, and the merge of its releases {}".format(saved.place, *found)
+        due = compiled_of(releases_in(record_in(record)))
+        yield from differing(f"notices {notice}", record_in(record).get("compiledRelease"), due,
+                             "the compiled release of {3} at {0} is {1}, and the merge of its releases {2}", saved.place)
 
 
 @rule("saved")
 def saved_minutes_stay(later: Later, office: Office | None, saved: Answers, notice: str) -> Found:
     """Saved minutes are still the minutes: nothing changes them."""
     before, here = saved.of_notice(notice, "minutes"), later.minutes(notice) if notice in later.notices else None
-    if before is not None and here is not None and before != here:
-        lines, there = before.split("\n"), here.split("\n")
-        place = next((place for place, (was, now) in enumerate(zip(lines, there)) if was != now), min(len(lines), len(there)))
-        yield f"notices {notice}", f"line {place + 1} of its minutes is {there[place:place + 1]}, and was {lines[place:place + 1]} in {saved.place}"
+    if before is not None and here is not None:
+        yield from unlike(f"notices {notice}", here, before, "line {} of its minutes is {}, and was {} in {}", saved.place)
 
 
 @rule("witness")
@@ -191,8 +188,7 @@ def receipts_are_of_the_rows(office: Office, saved: Answers) -> Found:
         here = {**row, "moment": text_of(row["moment"]), "digest": row["digest"].hex()}
         # (The answer to a withdrawal has its own moment, and no digest.)
         names = ("notice", "lot", "moment", "length", "digest", "security") if "digest" in receipt else ()
-        unlike = [name for name in names if name in receipt and receipt[name] != here[name]]
-        for name in unlike:
+        for name in (name for name in names if name in receipt and receipt[name] != here[name]):
             yield f"envelopes {row['receipt']}", f"{name} is {here[name]}, and {receipt[name]} on the receipt of {saved.place}"
         notice = office.table("notices")[(row["notice"],)]
         in_time = row["state"] != "returned" or notice["state"] == "cancelled" and row["moment"] <= notice["deadline"]
@@ -208,8 +204,8 @@ def securities_are_as_shown(office: Office, saved: Answers) -> Found:
             key = shown.get("security" if kind == "security" else "contract")
             row = office.table(table).get((key,))
             here = {**(row or {}), **({} if kind == "security" or row is None else {"tenderer": office.table("contracts")[(key,)]["tenderer"]})}
-            unlike = [name for name in ("amount", "reference", "tenderer") if shown.get(name) != here.get(name)]
-            if row is None or unlike or shown.get("state") not in ("held", row["state"]):
+            others = [name for name in ("amount", "reference", "tenderer") if shown.get(name) != here.get(name)]
+            if row is None or others or shown.get("state") not in ("held", row["state"]):
                 told = {name: here.get(name) for name in ("amount", "reference", "tenderer", "state")}
                 yield f"{table} {key}", f"is {told}, and was shown as {shown} in {saved.place}"
 
@@ -224,7 +220,6 @@ def paid_never_falls(here: str, before: str, place: str) -> Found:
 
 
 def appropriations_in(ledger: str) -> dict[str, int]:
-    """The appropriation of each line of a ledger."""
     return {line.split("\t")[0]: int(line.split("\t")[1]) for line in ledger.split("\n")[2:-1]}
 
 

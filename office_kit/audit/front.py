@@ -6,7 +6,7 @@ import hashlib
 import io
 import json
 import re
-from collections.abc import Callable, Iterable, Iterator
+from collections.abc import Iterable, Iterator
 from typing import Any, NamedTuple
 
 from office_kit.audit.looks import terms_of
@@ -48,7 +48,6 @@ class Command(NamedTuple):
 
 
 def body_of(line: Line) -> Json | None:
-    """The JSON object in a line's body, or None."""
     return json_object(line.body.decode("utf-8", "surrogateescape"))
 
 
@@ -158,13 +157,12 @@ def commands_of(office: Office, since: int) -> Iterator[Command]:
 def command_of(office: Office, notice: str, row: str, moment: int, release: Json) -> Command:
     """The command that made a release. (Other rules say what is wrong with a release that isn't one of a command.)"""
     try:
-        route, entry, says = next(told for tag, told in TOLD.items() if tag in release["tag"])(office, notice, release)
-    except (KeyError, TypeError, IndexError, AttributeError, ValueError, StopIteration):
+        route, entry, says = told_by(office, notice, release)
+    except (KeyError, TypeError, IndexError, AttributeError, ValueError):
         return Command(row, "a command", moment, None, None)
     return Command(row, f"POST {route}", moment, entry, says)
 
 
-Told = tuple[str, str | None, Json | None]
 # The members of a publication that may be absent, and their values then.
 OPTIONAL: Json = {"price_weight": None, "late_withdrawal": "refused", "performance": 0}
 
@@ -175,66 +173,48 @@ def lots_of(lots: Iterable[Json]) -> Json:
                         **{name: lot[name] for name in ("title", "line", "estimate", "security")}} for lot in lots}
 
 
-def publication(office: Office, notice: str, release: Json) -> Told:
+def publication(office: Office, notice: str, deadline: str) -> Json | None:
+    """What the body of a publication must say, with the deadline of its release, which may have moved since."""
     if (notice,) not in office.table("notices"):
-        return f"/notices/{notice}", None, None
+        return None
     told = terms_of(office, notice)
     due = {name: told[name] for name in ("title", "validity_days", "standstill_days", "criteria", *OPTIONAL)}
-    return f"/notices/{notice}", None, {**due, "deadline": release["tender"]["tenderPeriod"]["endDate"], "lots": lots_of(told["lots"])}
+    return {**due, "deadline": deadline, "lots": lots_of(told["lots"])}
 
 
-def amendment(office: Office, notice: str, release: Json) -> Told:
-    tender = release["tender"]
-    return f"/notices/{notice}/amend", None, {"deadline": tender["tenderPeriod"]["endDate"], "rationale": tender["amendments"][0]["rationale"]}
-
-
-def cancellation(office: Office, notice: str, release: Json) -> Told:
-    return f"/notices/{notice}/cancel", None, {"rationale": release["tender"]["amendments"][0]["rationale"]}
-
-
-def update(office: Office, notice: str, release: Json) -> Told:
-    """An opening, or an award of a lot that nobody wins."""
-    tender = release["tender"]
-    return (f"/notices/{notice}/open" if "numberOfTenderers" in tender else f"/notices/{notice}/lots/{tender['lots'][0]['id']}/award"), None, None
-
-
-def award(office: Office, notice: str, release: Json) -> Told:
-    return f"/notices/{notice}/lots/{release['awards'][0]['relatedLots'][0]}/award", None, None
-
-
-def passing_over(office: Office, notice: str, release: Json) -> Told:
-    return f"/awards/{release['awards'][0]['id']}/fail", None, None
-
-
-def signing(office: Office, notice: str, release: Json) -> Told:
-    number = release["contracts"][0]["awardID"]
-    held = office.rows("SELECT reference, amount FROM performance WHERE contract = ?", int(number))
-    return f"/awards/{number}/sign", None, dict(zip(("security", "amount"), held[0])) if held else None
-
-
-def change(office: Office, notice: str, release: Json) -> Told:
-    told = release["contracts"][0]
-    entry = told["amendments"][0]
-    rows = office.rows("SELECT kind, amount, rationale FROM entries WHERE contract = ? AND entry = ?", int(told["id"]), entry["id"])
-    return f"/contracts/{told['id']}/amend", entry["id"], dict(zip(("kind", "amount", "rationale"), rows[0])) if rows else None
-
-
-def payment(office: Office, notice: str, release: Json) -> Told:
-    told = release["contracts"][0]
-    paid = told["implementation"]["transactions"][0]
-    return f"/contracts/{told['id']}/pay", paid["id"], {"amount": paid["value"]["amount"]}
-
-
-def end(office: Office, notice: str, release: Json) -> Told:
-    number = release["contracts"][0]["id"]
-    how = office.rows("SELECT how FROM contracts WHERE contract = ?", int(number))
-    return f"/contracts/{number}/end", None, {"how": how[0][0]} if how else None
-
-
-# The command of a release, by the first of these tags that it has.
-TOLD: dict[str, Callable[[Office, str, Json], Told]] = {
-    "tender": publication, "tenderAmendment": amendment, "tenderCancellation": cancellation, "tenderUpdate": update, "award": award,
-    "awardCancellation": passing_over, "contract": signing, "contractAmendment": change, "implementation": payment, "contractTermination": end}
+def told_by(office: Office, notice: str, release: Json) -> tuple[str, str | None, Json | None]:
+    """The route of the command that made a release, the identifier of a payment or a change, and what the body must say by the rows."""
+    tender, award, contract = release.get("tender", {}), *(release.get(name, [{}])[0] for name in ("awards", "contracts"))
+    match release["tag"]:
+        case ["planning", "tender"]:
+            return f"/notices/{notice}", None, publication(office, notice, tender["tenderPeriod"]["endDate"])
+        case ["tenderAmendment"]:
+            said = {"deadline": tender["tenderPeriod"]["endDate"], "rationale": tender["amendments"][0]["rationale"]}
+            return f"/notices/{notice}/amend", None, said
+        case ["tenderCancellation", *_]:
+            return f"/notices/{notice}/cancel", None, {"rationale": tender["amendments"][0]["rationale"]}
+        case ["tenderUpdate"] if "numberOfTenderers" in tender:
+            return f"/notices/{notice}/open", None, None
+        case ["tenderUpdate"]:
+            return f"/notices/{notice}/lots/{tender['lots'][0]['id']}/award", None, None
+        case ["award"]:
+            return f"/notices/{notice}/lots/{award['relatedLots'][0]}/award", None, None
+        case ["awardCancellation"]:
+            return f"/awards/{award['id']}/fail", None, None
+        case ["contract"]:
+            held = office.table("performance").get((int(contract["awardID"]),))
+            return f"/awards/{contract['awardID']}/sign", None, held and {"security": held["reference"], "amount": held["amount"]}
+        case ["contractAmendment"]:
+            entry = contract["amendments"][0]["id"]
+            row = office.table("entries").get((int(contract["id"]), entry))
+            return f"/contracts/{contract['id']}/amend", entry, row and {name: row[name] for name in ("kind", "amount", "rationale")}
+        case ["implementation"]:
+            paid = contract["implementation"]["transactions"][0]
+            return f"/contracts/{contract['id']}/pay", paid["id"], {"amount": paid["value"]["amount"]}
+        case ["contractTermination"]:
+            ended = office.table("contracts").get((int(contract["id"]),))
+            return f"/contracts/{contract['id']}/end", None, ended and {"how": ended["how"]}
+    raise ValueError(f"no command makes a release with the tags {release['tag']}")
 
 
 def differences(line: Line, command: Command) -> list[tuple[str, Any, Any]]:

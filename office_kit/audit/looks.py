@@ -7,7 +7,7 @@ from typing import Any
 
 from office_kit.audit.answers import Answers
 from office_kit.audit.earlier import Later
-from office_kit.audit.office import Found, Json, Office, difference, rule, text_of
+from office_kit.audit.office import Found, Json, Office, differing, rule, text_of
 from office_kit.audit.outside import Seen, Tender, read_minutes
 from office_kit.audit.releases import text_with, unlike
 from office_kit.audit.story import Story
@@ -22,7 +22,6 @@ FINAL = OUTCOMES[1:]
 # ---- What is due by the rows.
 
 def listed_of(office: Office) -> dict[str, Json]:
-    """The list's entry for each notice, from the rows."""
     return {notice: {"amendments": row["amendments"], "deadline": text_of(row["deadline"]), "notice": notice, "opened": text_of(row["opened"]),
                      "published": text_of(row["published"]), "releases": row["releases"], "state": row["state"], "title": row["title"]}
             for (notice,), row in office.table("notices").items()}
@@ -34,7 +33,6 @@ def items_of(text: str) -> list[Json]:
 
 
 def terms_of(office: Office, notice: str) -> Json:
-    """The terms of a notice, by the rows."""
     row = office.table("notices")[(notice,)]
     lots = [{"estimate": estimate, "id": lot, "items": items_of(items), "line": line, "security": security, "state": state, "title": title}
             for lot, title, line, estimate, security, items, state in office.rows(
@@ -53,7 +51,6 @@ def may_win(finding: Any) -> bool:
 
 
 def line_of(finding: Any, weight: int, lowest: int) -> list[object]:
-    """The line of a tender."""
     receipt, tenderer, reading, price, responsive, quality, failed = finding
     if reading != "priced":
         return ["tender", receipt, tenderer, reading]
@@ -79,7 +76,6 @@ def evaluation_of(office: Office, notice: str, is_whole: bool = False) -> str | 
 
 
 def contract_of(office: Office, contract: int) -> Json | None:
-    """The answer about a contract, from the rows, or None."""
     row = office.table("contracts").get((contract,))
     if row is None:
         return None
@@ -100,9 +96,7 @@ def listed_notices_are_of_the_rows(office: Office, listed: list[Json]) -> Found:
     due, names = listed_of(office), [str(it.get("notice")) for it in listed]
     there = dict(zip(names, listed))
     for name in sorted({*due, *names}):
-        found = difference(there.get(name), due.get(name))
-        if found:
-            yield f"notices {name}", "in the list {} is {}, and the file says {}".format(*found)
+        yield from differing(f"notices {name}", there.get(name), due.get(name), "in the list {} is {}, and the file says {}")
     if names != sorted(set(names)):
         yield "office 1", "the list isn't sorted, or has a notice twice"
 
@@ -113,8 +107,8 @@ def terms_are_of_the_rows(office: Office, answers: Answers, notice: str) -> Foun
     terms = answers.terms(notice)
     if terms is None:
         yield from [(f"notices {notice}", "is in the file, and no terms are answered")] if answers.has_looks() else []
-    elif found := difference(terms, terms_of(office, notice)):
-        yield f"notices {notice}", "its terms at {} answer {}, and the file says {}".format(*found)
+    else:
+        yield from differing(f"notices {notice}", terms, terms_of(office, notice), "its terms at {} answer {}, and the file says {}")
 
 
 @rule("looks")
@@ -133,9 +127,7 @@ def evaluations_are_of_the_rows(office: Office, answers: Answers, notice: str) -
 def contracts_are_of_the_rows(office: Office, answers: Answers) -> Found:
     """A contract is shown as the file has it, with all its changes and payments."""
     for contract, shown in answers.contracts([number for number, in office.table("contracts")]):
-        found = difference(shown, contract_of(office, contract))
-        if found:
-            yield f"contracts {contract}", "what is shown of it at {} is {}, and the file says {}".format(*found)
+        yield from differing(f"contracts {contract}", shown, contract_of(office, contract), "what is shown of it at {} is {}, and the file says {}")
 
 
 # ---- Without the file.
@@ -156,8 +148,9 @@ def listed_notices_are_of_the_releases(seen: Seen) -> Found:
         releases = seen.releases.get(str(it.get("notice")))
         if releases is None:
             yield from [(f"notices {it.get('notice')}", "is in the list, and has no releases")] if seen.complete else []
-        elif found := difference(it, due_in_list(it["notice"], releases[:it["releases"]])):
-            yield f"notices {it['notice']}", "in the list {} is {}, and its releases say {}".format(*found)
+        else:
+            due = due_in_list(it["notice"], releases[:it["releases"]])
+            yield from differing(f"notices {it['notice']}", it, due, "in the list {} is {}, and its releases say {}")
     names = [it.get("notice") for it in seen.listed or []]
     for notice in seen.releases if seen.complete and seen.listed is not None else ():
         yield from [(f"notices {notice}", "isn't in the list")] if notice not in names else []
@@ -188,9 +181,7 @@ def terms_are_of_the_releases(seen: Seen) -> Found:
         due = due_in_terms(seen.releases[notice])
         told: Json = {name: terms.get(name) for name in due}
         told["lots"] = [{name: lot.get(name) for name in ("estimate", "id", "items", "title")} for lot in terms.get("lots", [])]
-        found = difference(told, due)
-        if found:
-            yield f"notices {notice}", "its terms at {} are {}, and its releases say {}".format(*found)
+        yield from differing(f"notices {notice}", told, due, "its terms at {} are {}, and its releases say {}")
         for what in went_back(terms, due_in_list(notice, seen.releases[notice]), seen.complete):
             yield f"notices {notice}", what
 
@@ -265,9 +256,7 @@ def saved_terms_stay(later: Later, office: Office | None, saved: Answers, notice
     """Saved terms are still the terms: only the notice's deadline may have moved later, and the notice and its lots may have progressed."""
     before, here = saved.terms(notice), later.terms(notice) if notice in later.notices else None
     if before is not None and here is not None:
-        found = difference(fixed_in(here), fixed_in(before))
-        if found:
-            yield f"notices {notice}", "its terms at {} are {}, and were {} in {}".format(*found, saved.place)
+        yield from differing(f"notices {notice}", fixed_in(here), fixed_in(before), "its terms at {} are {}, and were {} in {}", saved.place)
         if str(here.get("deadline")) < str(before.get("deadline")) or before.get("opened") not in (None, here.get("opened")):
             yield f"notices {notice}", f"its deadline or its opening was different in the terms of {saved.place}"
 

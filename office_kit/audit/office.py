@@ -131,6 +131,12 @@ def difference(here: Any, there: Any, path: str = "") -> tuple[str, str, str] | 
     return next((found for place, one, other in pairs if (found := difference(one, other, place))), None)
 
 
+def differing(row: str, here: Any, there: Any, told: str, *more: str) -> Found:
+    """A finding if two JSON values differ. Its words have braces for the first place that differs, for both values there, and for more."""
+    if found := difference(here, there):
+        yield row, told.format(*found, *more)
+
+
 def json_object(text: str) -> Json | None:
     """The JSON object in a text, or None."""
     try:
@@ -227,5 +233,4 @@ class Office:
         return [value for value in values if value is not None]
 
     def has_changed(self) -> bool:
-        """Whether somebody wrote to the file since it was copied."""
         return stamp(self.path) != self.stamp

@@ -38,8 +38,6 @@ class Minutes:
 
 
 class Tender:
-    """A tender in the minutes."""
-
     def __init__(self, lot: str, receipt: str, tenderer: str, name: str, address: str, reading: str, *figures: str) -> None:
         self.lot, self.receipt, self.tenderer, self.known, self.reading = lot, int(receipt), "T-" + tenderer, (name, address), reading
         self.stated, self.corrected, self.corrections = map(int, figures) if reading == "priced" else (-1, -1, -1)
@@ -70,7 +68,6 @@ def pots_of(ledger: str) -> dict[str, int] | None:
 # ---- Minutes.
 
 def minutes_found(minutes: Minutes, story: Story) -> Iterator[str]:
-    """Contradictions between minutes and releases of a notice."""
     said, told = [minutes.notice, minutes.title, minutes.deadline, minutes.opened], [story.notice, story.title, story.deadline, str(story.opened)]
     if said != told:
         yield f"the minutes say {', '.join(said)}, and the releases {', '.join(told)}"

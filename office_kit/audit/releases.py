@@ -6,7 +6,7 @@ from collections.abc import Callable, Iterable
 from typing import Any
 
 from office_kit.audit.answers import Answers
-from office_kit.audit.office import Found, Json, Office, difference, json_object, rule, text_of
+from office_kit.audit.office import Found, Json, Office, differing, json_object, rule, text_of
 
 TAGS = [["tenderAmendment"], ["tenderUpdate"], ["award"], ["awardCancellation"], ["tenderCancellation"], ["tenderCancellation", "awardCancellation"],
         ["contract"], ["contractAmendment"], ["implementation"], ["contractTermination"]]
@@ -158,29 +158,6 @@ def facts_told(merge: Json) -> dict[str, Any]:
 
 # ---- Rules of the releases that the file keeps.
 
-@rule("file")
-def releases_are_counted(office: Office) -> Found:
-    """The notice's count of releases is one each for publication, opening, cancellation, amendment, award, lot without winner, failing, signing, entry, end."""
-    yield from office.find("notices", """
-        WITH counted AS (SELECT notice, 1 + amendments + (state = 'opened')
-            + (SELECT count(*) + count(*) FILTER (WHERE state = 'failed') FROM awards AS a WHERE a.notice = n.notice)
-            + (SELECT count(*) FILTER (WHERE state = 'unsuccessful') + coalesce(max(state = 'cancelled'), 0) FROM lots AS l WHERE l.notice = n.notice)
-            + (SELECT count(*) + count(ended) FROM contracts AS c WHERE c.notice = n.notice)
-            + (SELECT count(*) FROM contracts AS c JOIN entries AS e ON e.contract = c.contract WHERE c.notice = n.notice) AS due FROM notices AS n)
-        SELECT notice, printf('counts %d releases, and its rows tell of %d', releases, due) FROM notices JOIN counted USING (notice) WHERE releases <> due""")
-
-
-@rule("file")
-def releases_are_numbered(office: Office) -> Found:
-    """Each notice has exactly the releases from 1 to its count."""
-    yield from office.find("releases", """
-        WITH RECURSIVE number(n) AS (SELECT 1 UNION ALL SELECT n + 1 FROM number WHERE n < (SELECT max(releases) FROM notices))
-        SELECT notice, n, 'is missing' FROM notices AS i JOIN number ON n <= releases
-        WHERE NOT EXISTS (SELECT 1 FROM releases AS r WHERE r.notice = i.notice AND seq = n)
-        UNION ALL SELECT r.notice, seq, 'is above the count of its notice' FROM releases AS r JOIN notices AS i ON i.notice = r.notice
-        WHERE seq > i.releases""")
-
-
 @rule("kept")
 def kept_texts_are_releases(office: Office, notice: str, releases: list[Json]) -> Found:
     """The text of a stored release is a JSON object, dated by its row's moment."""
@@ -215,9 +192,7 @@ def rows_have_their_releases(office: Office, notice: str, releases: list[Json]) 
 def merges_are_of_their_releases(office: Office, notice: str, releases: list[Json]) -> Found:
     """If a merge of a notice's releases is stored, it is their merge."""
     for text, in office.rows("SELECT text FROM compiled WHERE notice = ?", notice):
-        found = difference(json_object(text), merge_of(releases))
-        if found:
-            yield f"compiled {notice}", "at {} it has {}, and the merge of the releases {}".format(*found)
+        yield from differing(f"compiled {notice}", json_object(text), merge_of(releases), "at {} it has {}, and the merge of the releases {}")
 
 
 @rule("kept")
@@ -282,17 +257,15 @@ def record_in(package: Json) -> Json:
 @rule("answers")
 def answered_releases_are_kept(office: Office | None, answers: Answers, notice: str, package: Json, record: Json) -> Found:
     """The answered releases are those in the file."""
-    found = office and difference(package.get("releases"), office.releases(notice))
-    if found:
-        yield f"notices {notice}", "its releases at {} answer {}, and the file has {}".format(*found)
+    if office:
+        yield from differing(f"notices {notice}", package.get("releases"), office.releases(notice), "its releases at {} answer {}, and the file has {}")
 
 
 @rule("answers")
 def records_have_the_releases(office: Office | None, answers: Answers, notice: str, package: Json, record: Json) -> Found:
     """A record package has one record, with the notice's ocid and the releases of the release package."""
-    found = difference(record_in(record).get("releases"), package.get("releases"))
-    if found:
-        yield f"notices {notice}", "its record's releases at {} are {}, and its releases {}".format(*found)
+    yield from differing(f"notices {notice}", record_in(record).get("releases"), package.get("releases"),
+                         "its record's releases at {} are {}, and its releases {}")
     if any(release.get("ocid") != record_in(record).get("ocid") for release in releases_in(package)):
         yield f"notices {notice}", f"its record is of {record_in(record).get('ocid')}"
 
@@ -300,9 +273,8 @@ def records_have_the_releases(office: Office | None, answers: Answers, notice: s
 @rule("answers")
 def compiled_is_the_merge(office: Office | None, answers: Answers, notice: str, package: Json, record: Json) -> Found:
     """The compiled release of a record is the merge of the releases, under its own head."""
-    found = difference(record_in(record).get("compiledRelease"), compiled_of(releases_in(package)))
-    if found:
-        yield f"notices {notice}", "its compiled release at {} is {}, and the merge of the releases {}".format(*found)
+    yield from differing(f"notices {notice}", record_in(record).get("compiledRelease"), compiled_of(releases_in(package)),
+                         "its compiled release at {} is {}, and the merge of the releases {}")
 
 
 @rule("answers")
@@ -360,14 +332,13 @@ def ledger_is_of_the_rows(office: Office | None, text: str) -> Found:
 
 
 def ledger_of(office: Office) -> str:
-    """The ledger, by the rows."""
     head = [("LEDGER",), ("line", "appropriation", "free", "reserved", "contracted", "paid")]
     return text_with(head + office.rows("SELECT line, appropriation, free, reserved, contracted, paid FROM pots ORDER BY line"))
 
 
-def unlike(row: str, text: str, due: str) -> Found:
-    """A finding if a text isn't the expected one."""
+def unlike(row: str, text: str, due: str, told: str = "line {} of the answer is {}, and the file says {}", *more: str) -> Found:
+    """A finding if a text isn't the expected one. Its words have braces for the first line that differs, for both lines, and for more."""
     lines, wanted = text.split("\n"), due.split("\n")
     if lines != wanted:
         place = next((place for place, (here, there) in enumerate(zip(lines, wanted)) if here != there), min(len(lines), len(wanted)))
-        yield row, f"line {place + 1} of the answer is {lines[place:place + 1]}, and the file says {wanted[place:place + 1]}"
+        yield row, told.format(place + 1, lines[place:place + 1], wanted[place:place + 1], *more)

@@ -1,7 +1,8 @@
 """The rules of `tools/audit` that compare the rows of an office's file with one another. The name of each is the rule, and its docstring says it in a
-sentence."""
+sentence. Those that are one statement or two of SQL are in rows.sql."""
 import hashlib
 import re
+from pathlib import Path
 from typing import Any
 
 from office_kit.audit.office import MADE, ON_DISK, TABLES, Found, Office, rule
@@ -53,12 +54,6 @@ def tables_are_as_made(office: Office) -> Found:
             yield f"{kind} {name}", "has another form"
     for name in sorted(set(MADE) - {name for name, _, _ in there}):
         yield f"{'table' if name in (*TABLES, *ON_DISK.values()) else 'index'} {name}", "is missing"
-
-
-@rule("file")
-def notices_stand_in_one_table(office: Office) -> Found:
-    """No notice is in the table of version 1, which version 2 keeps empty."""
-    yield from office.find("notices", "SELECT notice, 'is in the table of version 1' FROM main.notices ORDER BY notice")
 
 
 @rule("file")
@@ -135,114 +130,7 @@ def rows_came_one_after_another(office: Office) -> Found:
                 (SELECT {key}, moment, lag(moment) OVER (ORDER BY rowid) AS earlier FROM {name}) WHERE moment < earlier""")
 
 
-@rule("file")
-def lines_come_from_batches(office: Office) -> Found:
-    """There are no more lines than rows in the imported budget files."""
-    yield from office.find("office", """SELECT version, printf('has %d lines, and its batches %d rows', lines, rows) FROM office,
-        (SELECT count(*) AS lines FROM lines), (SELECT coalesce(sum(rows), 0) AS rows FROM batches) WHERE lines > rows""")
-
-
-# ---- Money.
-
-@rule("file")
-def pots_add_up(office: Office) -> Found:
-    """For each line, free, reserved, contracted and paid, summed from joined rows, add up to its appropriation."""
-    yield from office.find("lines", """
-        SELECT line, printf('free %d, reserved %d, contracted %d and paid %d add up to %d, and its appropriation is %d',
-            free, reserved, contracted, paid, free + reserved + contracted + paid, appropriation)
-        FROM pots WHERE free + reserved + contracted + paid <> appropriation""")
-
-
-@rule("file")
-def contracts_are_not_overdrawn(office: Office) -> Found:
-    """No contract was cut, paid and released by more than was signed and raised."""
-    yield from office.find("contracts", """
-        SELECT contract, printf('signed %d and raised %d, but cut %d, paid %d and released %d', signed, raised, cut, paid, released)
-        FROM sums WHERE cut + paid + released > signed + raised""")
-
-
-@rule("file")
-def contracts_end_settled(office: Office) -> Found:
-    """A running contract has released nothing; an ended one has nothing outstanding, and says how it ended."""
-    yield from office.find("contracts", """
-        SELECT contract, 'when and how it ended don''t go together' FROM contracts WHERE (ended IS NULL) <> (how IS NULL)
-        UNION ALL SELECT contract, printf('it runs, and has released %d', released) FROM contracts WHERE ended IS NULL AND released <> 0
-        UNION ALL SELECT contract, printf('it ended, and %d is outstanding', signed + raised - cut - paid - released)
-        FROM sums WHERE ended IS NOT NULL AND signed + raised - cut - paid - released <> 0""")
-
-
-@rule("file")
-def reservations_fit_their_lots(office: Office) -> Found:
-    """An undecided or awarded lot reserves the price of its last award, or its estimate without one; any other lot reserves nothing."""
-    yield from office.find("lots", """
-        WITH due AS (SELECT notice, lot, CASE WHEN state IN ('undecided', 'awarded') THEN coalesce((SELECT price FROM awards AS a
-            WHERE a.notice = l.notice AND a.lot = l.lot ORDER BY award DESC LIMIT 1), estimate) ELSE 0 END AS due FROM lots AS l)
-        SELECT notice, lot, printf('reserves %d in place of %d', reserved, due) FROM lots JOIN due USING (notice, lot) WHERE reserved <> due""")
-
-
-# ---- Notices, lots, awards and contracts.
-
-@rule("file")
-def notices_keep_their_time(office: Office) -> Found:
-    """A notice is published before its deadline; exactly if it is opened, it has a moment of opening, not before the deadline."""
-    yield from office.find("notices", """
-        SELECT notice, 'published when its deadline had come' FROM notices WHERE published >= deadline
-        UNION ALL SELECT notice, 'opened before its deadline' FROM notices WHERE opened < deadline
-        UNION ALL SELECT notice, printf('is %s, and its moment of opening is %s', state, coalesce(text_of(opened), 'none'))
-        FROM notices WHERE (state = 'opened') <> (opened IS NOT NULL)""")
-
-
-@rule("file")
-def lots_fit_their_notices(office: Office) -> Found:
-    """All lots of a notice that receives tenders are undecided, and all lots of a cancelled notice are cancelled."""
-    yield from office.find("lots", """
-        SELECT l.notice, lot, printf('is %s, and its notice %s', l.state, n.state) FROM lots AS l JOIN notices AS n ON n.notice = l.notice
-        WHERE (n.state = 'receiving' AND l.state <> 'undecided') OR (n.state = 'cancelled' AND l.state <> 'cancelled')""")
-
-
-@rule("file")
-def lots_fit_their_awards(office: Office) -> Found:
-    """A lot's last award is active if it is awarded, signed if contracted, else failed, or cancelled with the lot; earlier awards have failed."""
-    yield from office.find("lots", """
-        SELECT l.notice, l.lot, printf('is %s, and its last award is %s', l.state, coalesce(a.state, 'none')) FROM lots AS l
-        LEFT JOIN awards AS a ON a.award = (SELECT max(award) FROM awards WHERE notice = l.notice AND lot = l.lot)
-        WHERE instr(CASE l.state WHEN 'awarded' THEN 'active' WHEN 'contracted' THEN 'signed' WHEN 'cancelled' THEN 'none failed cancelled'
-            ELSE 'none failed' END, coalesce(a.state, 'none')) = 0""")
-    yield from office.find("awards", """
-        SELECT award, 'is ' || state || ', and its lot has a later award' FROM awards AS a
-        WHERE state <> 'failed' AND EXISTS (SELECT 1 FROM awards AS b WHERE b.notice = a.notice AND b.lot = a.lot AND b.award > a.award)""")
-
-
-@rule("file")
-def contracts_are_signed_awards(office: Office) -> Found:
-    """Exactly the signed awards have a contract, with the same number, lot and price, and the tenderer of the award's tender."""
-    yield from office.find("awards", """
-        SELECT award, 'is ' || state || ', and a contract of its number ' || iif(contract IS NULL, 'doesn''t exist', 'exists')
-        FROM awards LEFT JOIN contracts ON contract = award WHERE (state = 'signed') <> (contract IS NOT NULL)""")
-    yield from office.find("contracts", """
-        SELECT contract, 'differs from its award' FROM contracts AS c LEFT JOIN awards AS a ON award = contract
-        LEFT JOIN envelopes AS e ON e.receipt = a.receipt WHERE (c.notice, c.lot, c.signed, c.tenderer) IS NOT (a.notice, a.lot, a.price, e.tenderer)""")
-
-
-@rule("file")
-def awards_keep_their_time(office: Office) -> Found:
-    """A lot is awarded after its notice is opened, and while tenders are in effect."""
-    yield from office.find("awards", """
-        SELECT award, 'awarded before the opening, or when tenders were no longer in effect' FROM awards AS a JOIN notices AS n ON n.notice = a.notice
-        WHERE n.opened IS NULL OR a.moment < n.opened OR a.moment >= n.deadline + 86400 * n.validity""")
-
-
-@rule("file")
-def contracts_keep_their_time(office: Office) -> Found:
-    """A contract is signed after the standstill and while tenders are in effect; its entries come between its signing and its end."""
-    yield from office.find("contracts", """
-        SELECT contract, 'signed during the standstill, or when tenders were no longer in effect' FROM contracts AS c JOIN awards AS a ON award = contract
-        JOIN notices AS n ON n.notice = c.notice WHERE c.moment < a.moment + 86400 * n.standstill OR c.moment >= n.deadline + 86400 * n.validity
-        UNION ALL SELECT contract, 'ended before it was signed' FROM contracts WHERE ended < moment""")
-    yield from office.find("entries", """
-        SELECT e.contract, entry, 'isn''t between the signing and the end' FROM entries AS e JOIN contracts AS c ON c.contract = e.contract
-        WHERE e.moment < c.moment OR e.moment > c.ended""")
-
+# ---- Offers and their bytes.
 
 @rule("file")
 def awards_go_to_the_best(office: Office) -> Found:
@@ -267,69 +155,6 @@ def best_of(offers: list[Any], weight: int) -> Any:
         points = (weight * 1000 * lowest // price if price else weight * 1000) + 1000 * quality
         return (-points if weight else 0, price, receipt)
     return min(offers, key=standing, default=None)
-
-
-@rule("file")
-def lots_without_a_winner_have_no_offer(office: Office) -> Found:
-    """An unsuccessful lot has no tender that can win."""
-    yield from office.find("lots", """
-        SELECT l.notice, l.lot, 'is unsuccessful, and tender ' || receipt || ' may win' FROM lots AS l
-        JOIN offers AS o ON o.notice = l.notice AND o.lot = l.lot WHERE l.state = 'unsuccessful' AND o.failed = 0""")
-
-
-# ---- Tenders and their securities.
-
-@rule("file")
-def late_tenders_stay_shut(office: Office) -> Found:
-    """A tender that came after the deadline was returned: it isn't sealed, and wasn't opened."""
-    yield from office.find("envelopes", """
-        SELECT receipt, printf('is %s, and came at %s, after the deadline %s', e.state, text_of(moment), text_of(deadline))
-        FROM envelopes AS e JOIN notices AS n ON n.notice = e.notice WHERE e.state IN ('sealed', 'opened') AND moment > deadline""")
-
-
-@rule("file")
-def tenders_have_their_fate(office: Office) -> Found:
-    """A tender is sealed while its notice receives, opened once that is, withdrawn if it came before the deadline, and returned if late or cancelled."""
-    yield from office.find("envelopes", """
-        SELECT receipt, printf('is %s, and its notice %s', e.state, n.state) FROM envelopes AS e JOIN notices AS n ON n.notice = e.notice
-        WHERE NOT CASE e.state WHEN 'sealed' THEN n.state = 'receiving' WHEN 'opened' THEN n.state = 'opened' AND moment <= n.opened
-            WHEN 'withdrawn' THEN moment < deadline ELSE n.state = 'cancelled' OR moment > deadline OR coalesce(moment >= n.opened, 0) END
-        UNION ALL SELECT receipt, 'came before its notice was published' FROM envelopes AS e JOIN notices AS n ON n.notice = e.notice
-        WHERE moment < published""")
-
-
-@rule("file")
-def tenderers_have_one_tender_a_lot(office: Office) -> Found:
-    """A tenderer has at most one sealed or opened tender for a lot."""
-    yield from office.find("envelopes", """
-        SELECT max(receipt), printf('%s has %d tenders for %s/%s that are sealed or opened', tenderer, count(*), notice, lot)
-        FROM envelopes WHERE state IN ('sealed', 'opened') GROUP BY notice, lot, tenderer HAVING count(*) > 1""")
-
-
-@rule("file")
-def tenders_of_a_lot_follow_each_other(office: Office) -> Found:
-    """A tenderer submits for a lot only without a sealed tender for it: of those that came in time all but the last are withdrawn."""
-    yield from office.find("envelopes", """
-        SELECT later, printf('came while tender %d of %s, which is %s, was sealed for the lot', receipt, tenderer, state) FROM
-            (SELECT receipt, tenderer, e.state, lead(receipt) OVER (PARTITION BY e.notice, lot, tenderer ORDER BY receipt) AS later
-            FROM envelopes AS e JOIN notices AS n ON n.notice = e.notice WHERE moment <= deadline AND moment < coalesce(n.opened, moment + 1))
-        WHERE later IS NOT NULL AND state <> 'withdrawn'""")
-
-
-@rule("file")
-def seals_fit_their_tenders(office: Office) -> Found:
-    """The bytes of a tender are kept exactly while it is sealed or opened."""
-    yield from office.find("envelopes", """
-        SELECT e.receipt, printf('is %s, and its bytes are %s', state, iif(bytes IS NULL, 'not kept', 'kept'))
-        FROM envelopes AS e LEFT JOIN seals AS s ON s.receipt = e.receipt WHERE (state IN ('sealed', 'opened')) <> (bytes IS NOT NULL)""")
-
-
-@rule("file")
-def digests_are_of_the_bytes(office: Office) -> Found:
-    """A tender's digest is the SHA-256 of its stored bytes (FIPS 180-4), and its length is theirs."""
-    yield from office.find("seals", """
-        SELECT s.receipt, 'the bytes aren''t of the digest, or not of the length, that the receipt has'
-        FROM seals AS s JOIN envelopes AS e ON e.receipt = s.receipt WHERE sha256(bytes) <> digest OR length(bytes) <> length""")
 
 
 @rule("file")
@@ -368,76 +193,22 @@ def reading_of(data: bytes, items: str) -> tuple[Any, ...]:
     return "priced", stated, corrected, sum(total != quantity * unit for _, quantity, unit, total in rows) + (stated != corrected)
 
 
-@rule("file")
-def examinations_fit_their_tenders(office: Office) -> Found:
-    """Only priced tenders are examined, and all before a lot is decided, except failed ones; quality is given if points decide, within its bounds."""
-    yield from office.find("envelopes", """
-        SELECT receipt, 'was examined, and has no price' FROM envelopes WHERE responsive IS NOT NULL AND reading IS NOT 'priced'
-        UNION ALL SELECT receipt, 'its quality isn''t what its notice requires' FROM envelopes AS e JOIN notices AS n ON n.notice = e.notice
-        WHERE (quality IS NOT NULL) <> (weight > 0 AND responsive IS 1) OR weight + quality > 100
-        UNION ALL SELECT receipt, 'wasn''t examined, and its lot is decided' FROM envelopes AS e JOIN lots AS l ON l.notice = e.notice AND l.lot = e.lot
-        WHERE reading = 'priced' AND responsive IS NULL AND NOT failed AND (l.state IN ('awarded', 'contracted', 'unsuccessful')
-            OR EXISTS (SELECT 1 FROM awards AS a WHERE a.notice = e.notice AND a.lot = e.lot))""")
+# ---- The rules of rows.sql.
+
+# By their names, each with its statements and the tables whose rows these find.
+STATEMENTS: dict[str, list[tuple[str, str]]] = {}
 
 
-@rule("file")
-def failures_are_of_awards(office: Office) -> Found:
-    """A tender has failed only if an award of it has, or its notice allows late withdrawals; an award is of a tender for its lot."""
-    yield from office.find("envelopes", """
-        SELECT receipt, iif(failed, 'has failed, and no award of it has, nor may it be withdrawn late', 'hasn''t failed, and an award of it has') FROM envelopes
-        WHERE failed <> (receipt IN (SELECT receipt FROM awards WHERE state = 'failed')) AND NOT (failed AND notice IN (SELECT notice FROM late_rules))""")
-    yield from office.find("awards", """
-        SELECT award, 'its tender is for another lot' FROM awards AS a JOIN envelopes AS e ON e.receipt = a.receipt
-        WHERE (a.notice, a.lot) <> (e.notice, e.lot)""")
+def add(name: str, told: str) -> None:
+    """Makes a rule of its statements."""
+    def check(office: Office) -> Found:
+        for table, sql in STATEMENTS[name]:
+            yield from office.find(table, sql)
+    check.__name__, check.__doc__ = name, told
+    rule("file")(check)
 
 
-@rule("file")
-def securities_come_with_tenders(office: Office) -> Found:
-    """A security has the number of its first receipt; its tenders are of its tenderer and lot, all but the last withdrawn."""
-    yield from office.find("securities", """
-        SELECT s.security, 'the tender of its number doesn''t carry it' FROM securities AS s LEFT JOIN envelopes AS e ON e.receipt = s.security
-        WHERE e.security IS NOT s.security""")
-    yield from office.find("envelopes", """
-        SELECT receipt, 'carries the security of another tenderer or lot' FROM envelopes AS e JOIN securities AS s ON s.security = e.security
-        WHERE (e.tenderer, e.notice, e.lot) <> (s.tenderer, s.notice, s.lot)
-        UNION ALL SELECT receipt, 'is ' || state || ', and a later tender carries its security' FROM
-            (SELECT receipt, state, lead(receipt) OVER (PARTITION BY security ORDER BY receipt) AS later FROM envelopes WHERE security IS NOT NULL)
-        WHERE later IS NOT NULL AND state <> 'withdrawn'""")
-
-
-@rule("file")
-def securities_are_as_asked(office: Office) -> Found:
-    """A tender in time has a security of at least the amount that its lot requires, and none if the lot requires none."""
-    yield from office.find("envelopes", """
-        SELECT receipt, printf('its lot asks for a security of %d, and it carries one of %d', l.security, coalesce(amount, 0)) FROM envelopes AS e
-        JOIN lots AS l ON l.notice = e.notice AND l.lot = e.lot JOIN notices AS n ON n.notice = e.notice LEFT JOIN securities AS s ON s.security = e.security
-        WHERE (e.state <> 'returned' OR (n.state = 'cancelled' AND moment <= deadline))
-            AND (coalesce(amount, 0) < l.security OR (l.security = 0 AND e.security IS NOT NULL))""")
-
-
-@rule("file")
-def securities_have_their_fate(office: Office) -> Found:
-    """A security is forfeited if its tender failed, held while that is sealed or its lot undecided or awarded, otherwise returned."""
-    yield from office.find("securities", """
-        WITH last AS (SELECT security, max(receipt) AS receipt FROM envelopes WHERE security IS NOT NULL GROUP BY security),
-            fate AS (SELECT last.security, CASE WHEN e.failed THEN 'forfeited' WHEN e.state = 'sealed' OR (e.state = 'opened'
-                AND l.state IN ('undecided', 'awarded')) THEN 'held' ELSE 'returned' END AS due
-                FROM last JOIN envelopes AS e ON e.receipt = last.receipt JOIN lots AS l ON l.notice = e.notice AND l.lot = e.lot)
-        SELECT security, printf('is %s in place of %s', state, due) FROM securities JOIN fate USING (security) WHERE state <> due""")
-
-
-@rule("file")
-def performances_are_as_asked(office: Office) -> Found:
-    """A contract has a performance security of at least the amount that its notice requires, and none if the notice requires none."""
-    yield from office.find("contracts", """
-        SELECT contract, printf('its notice asks for a performance security of %d, and it has one of %d', n.performance, coalesce(amount, 0))
-        FROM contracts AS c JOIN notices AS n ON n.notice = c.notice LEFT JOIN performance AS p USING (contract)
-        WHERE coalesce(amount, 0) < n.performance OR (n.performance = 0 AND amount IS NOT NULL)""")
-
-
-@rule("file")
-def performances_have_their_fate(office: Office) -> Found:
-    """A performance security is held while its contract runs, forfeited if that ended by default, otherwise returned."""
-    yield from office.find("performance", """
-        WITH fate AS (SELECT contract, CASE WHEN ended IS NULL THEN 'held' WHEN how = 'default' THEN 'forfeited' ELSE 'returned' END AS due FROM contracts)
-        SELECT contract, printf('is %s in place of %s', state, due) FROM performance JOIN fate USING (contract) WHERE state <> due""")
+for found in re.finditer(r"^-- (\w+) (\w+)\n(?:-- (.*)\n)?([^-][^;]*;)\n", Path(__file__).with_suffix(".sql").read_text(encoding="utf-8"), re.M):
+    STATEMENTS.setdefault(found[1], []).append((found[2], found[4]))
+    if found[3]:
+        add(found[1], found[3])

@@ -97,7 +97,6 @@ class Story:
         self.is_amended(seq, release, release["tender"]["amendments"], "Cancelled")
 
     def end_lots(self, release: Json, status: str) -> None:
-        """Ends lots without a contract."""
         for told in release["tender"]["lots"]:
             lot = self.lots[told["id"]]
             want(lot["status"] == "active" and told["status"] == status, f"lot {told['id']} is {lot['status']}, and becomes {told['status']}")
@@ -190,7 +189,6 @@ class Story:
     # ---- What it comes to.
 
     def status(self) -> str:
-        """The status of the tender, by its lots."""
         there = {lot["status"] for lot in self.lots.values()}
         return next((status for status in RANKS if status in there), "unsuccessful")
 

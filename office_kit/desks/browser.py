@@ -118,7 +118,6 @@ class Page:
         self.ask("Emulation.setEmulatedMedia", features=[{"name": "prefers-color-scheme", "value": "dark" if dark else "light"}])
 
     def events(self, *names: str) -> list[Event]:
-        """The events of these kinds so far."""
         return [event["params"] for event in self.browser.events[self.session] if event["method"] in names]
 
     def run(self, script: str) -> Any:
@@ -129,7 +128,6 @@ class Page:
         return answer["result"].get("value")
 
     def gives(self, script: str, wanted: Any = True) -> None:
-        """Checks the value of an expression of the page."""
         told = self.run(script)
         check(f"the page: {script}: gives {told!r}, and not {wanted!r}", told == wanted)
 
@@ -196,16 +194,13 @@ class Page:
         return "".join(f"{' '.join(line.split())}\n" for line in lines if line.strip())
 
     def keep_in(self, folder: str) -> None:
-        """From now on files that the page saves go into a folder."""
         self.browser.ask("Browser.setDownloadBehavior", behavior="allow", browserContextId=self.context, downloadPath=folder)
 
     def saved(self, path: str) -> bytes:
-        """A file that the page saved there."""
         self.expect(f"{path} is saved", lambda: os.path.exists(path) and os.path.getsize(path) > 0)
         return Path(path).read_bytes()
 
     def choose(self, name: str, path: str) -> None:
-        """Chooses a file in the field of this name."""
         self.wait(f"document.getElementById({json.dumps(name)})")
         field = self.ask("Runtime.evaluate", expression=f"document.getElementById({json.dumps(name)})")["result"]
         self.ask("DOM.setFileInputFiles", files=[path], objectId=field["objectId"])

@@ -318,7 +318,6 @@ def stops(scene: Scene) -> None:
 
 
 def refused_as(desk: Desk, at: int, status: int, body: bytes) -> str:
-    """The sentence that the desk shows if a command is answered in this way."""
     path = f"/tenderers/R{at}"
     desk.page.answer_for({path: (status, body)})
     order = {"kind": "tenderer", "values": {"tenderer": "R", "name": "x"}, "path": path, "body": None, "again": None, "says": []}

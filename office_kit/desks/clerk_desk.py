@@ -32,21 +32,18 @@ class Desk:
         self.page.run(HANDS)
 
     def hand(self, what: str, *words: str | int) -> Any:
-        """The value of a function of hands.js."""
         return self.page.run(f"hands.{what}({', '.join(map(json.dumps, words))})")
 
     def told(self) -> str:
         return str(self.hand("told"))
 
     def says(self, texts: Texts, picture: str = "") -> None:
-        """Waits until the desk says these texts, and takes a picture."""
         for text in [texts] if isinstance(texts, str) else texts:
             self.page.wait(f"hands.told().includes({json.dumps(text)})")
         if picture:
             self.picture(picture)
 
     def hides(self, *texts: str, picture: str = "") -> None:
-        """Checks that the desk says none of these."""
         told = self.told()
         check(f"one of {texts} is told: {told}", not any(text in told for text in texts))
         self.says((), picture)
@@ -147,7 +144,6 @@ class Desk:
 
 
 def with_key(scene: Scene, width: int = 1280, place: str = "", language: str = "en") -> Desk:
-    """A desk with the clerk's key, at Today."""
     desk = Desk(scene, width, place, language)
     desk.give_key()
     desk.page.gives("document.documentElement.lang", language)

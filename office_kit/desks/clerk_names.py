@@ -92,7 +92,6 @@ def by_name(scene: Scene) -> None:
 
 
 def is_found(scene: Scene, name: str, module: str, old: str, new: str) -> bool:
-    """Whether a wrong module is noticed."""
     text = Path(ROOT, "web", "clerk", module).read_text(encoding="utf-8")
     check(f"{module} doesn't have {old} once", text.count(old) == 1)
     with contextlib.suppress(AssertionError), signed_in(scene, name) as desk:

@@ -29,7 +29,6 @@ def timed(page: Page, place: str, wanted: str) -> None:
 
 
 def drawn(page: Page, place: str) -> float:
-    """The seconds in which a view is drawn."""
     start = page.run(f"(performance.clearMarks('shown'), location.hash = {json.dumps('#' + place)}, performance.now())")
     page.drawn("performance.getEntriesByName('shown').length > 0")
     return float((page.run("performance.getEntriesByName('shown').at(-1).startTime") - start) / 1000)

@@ -40,7 +40,6 @@ IN_PAGE = Path(__file__).with_name("in_page.js").read_text()
 
 
 def asked(page: Page, question: str) -> Any:
-    """The answer of a function of in_page.js."""
     return page.run(f"{IN_PAGE.rstrip()}.{question}")
 
 
@@ -52,7 +51,6 @@ def page_of(scene: Scene, place: str, width: int = 1280) -> Page:
 
 
 def texts_of(page: Page, selector: str) -> list[str]:
-    """The texts of the elements that a selector finds."""
     return list(page.run(f"[...document.querySelectorAll({json.dumps(selector)})].map((at) => at.textContent)"))
 
 
@@ -196,7 +194,6 @@ def is_quiet(page: Page) -> None:
 
 
 def focused(page: Page, slack: int = 0) -> Any:
-    """The element that has the focus: its name, and whether it is seen."""
     return asked(page, f"focused({slack})")
 
 

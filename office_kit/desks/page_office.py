@@ -7,10 +7,10 @@ import time
 import tomllib
 from pathlib import Path
 
-from office_kit.client import AHEAD, Answer, Asking, Client, ahead, budget, lot, notice, tender, text_of, wait_until
+from office_kit.client import ahead, budget, lot, notice, tender, text_of, wait_until
 from office_kit.common import HOST, ROOT, fail
 from office_kit.front.nginx import Front
-from office_kit.store.life import key_of
+from office_kit.store.life import Life
 
 OFFICE = tomllib.loads(Path(__file__).with_name("page_office.toml").read_text(encoding="utf-8"))
 # A title that is a script.
@@ -20,7 +20,6 @@ SECURITY = "GUARANTEE-77"
 
 
 def mirror(office: str, folder: str, *options: str, **environment: str) -> None:
-    """The mirror of an office, in a folder."""
     ran = subprocess.run([f"{ROOT}/tools/mirror", office, folder, *options], env={**os.environ, **environment}, capture_output=True, text=True)
     assert ran.returncode == 0, ran.stderr
 
@@ -30,12 +29,8 @@ def mirror_beside(front: Front) -> None:
     mirror(f"http://{HOST}:{front.office}", f"{front.folder}/mirror/data", "--base", front.address().rstrip("/"))
 
 
-class Procurements(Client[Answer]):
+class Procurements(Life):
     """Requests through the front, each of which must be accepted."""
-
-    def __init__(self, transport: Asking) -> None:
-        super().__init__(transport, key_of)
-        self.deadline = int(time.time()) + AHEAD
 
     def before_the_deadline(self) -> None:
         """The budget, the tenderers, all notices and tenders; one is cancelled, and one stays open for a day."""
@@ -59,7 +54,6 @@ class Procurements(Client[Answer]):
         self.cancel("N4", "The library <i>got</i> them as a gift")
 
     def after_the_deadline(self) -> None:
-        """The openings, and the further steps of the opened notices."""
         wait_until(self.deadline + 1.05)
         for name in ("N1", "N2", "N5", "N6"):
             self.open(name)

@@ -55,7 +55,6 @@ class Scene:
         return str(path)
 
     def key_file(self, tenderer: str) -> str:
-        """The path of a file with a tenderer's key."""
         return self.put(f"{tenderer}.key", f"Office-Caller: {tenderer}\nOffice-Key: {key_of(tenderer)}\n".encode())
 
 

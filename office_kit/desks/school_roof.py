@@ -37,5 +37,4 @@ def table() -> str:
 
 
 def offer_of(name: str, units: Iterable[int], wrong: int = 0) -> str:
-    """A tender for a lot of the roof, with these unit prices."""
     return tender(*zip((quantity for _, quantity in LOTS[name]["items"]), units), wrong=wrong).replace("\nI", f"\n{LOTS[name]['letter']}")

@@ -31,13 +31,11 @@ class Desk:
         self.says(*texts)
 
     def shows(self, head: str, place: str | None = None) -> None:
-        """Waits for a view with this heading."""
         where = "true" if place is None else f"location.hash.slice(1) === {json.dumps(place)}"
         self.page.run("new Promise((done) => { setTimeout(done, 0); })")
         self.page.drawn(f"{where} && document.querySelector('main h1')?.textContent.startsWith({json.dumps(head)})")
 
     def says(self, *texts: str) -> None:
-        """Waits until the view says these texts."""
         for text in texts:
             self.page.wait(f"document.body?.innerText.includes({json.dumps(text)})")
 
@@ -53,7 +51,6 @@ class Desk:
         self.says(then)
 
     def choose(self, field: str, path: str, then: str = "") -> None:
-        """Chooses a file in a field, and waits until the view says something."""
         self.page.choose(field, path)
         self.says(then)
 
@@ -76,7 +73,6 @@ class Desk:
         self.page.run(f"document.getElementById({json.dumps(name)}).click()")
 
     def saved(self, name: str) -> bytes:
-        """A file that the desk saved."""
         return self.page.saved(self.scene.path(name))
 
     def review(self) -> None:
@@ -97,7 +93,6 @@ class Desk:
         assert self.has("bad", "The tender came late, and the register returned it."), "a late tender is green"
 
     def receipt(self) -> int:
-        """The receipt that the page shows after a sending."""
         self.shows("Receipt ")
         return int(self.page.run("document.querySelector('main h1').textContent.split(' ')[1]"))
 
@@ -106,7 +101,6 @@ class Desk:
         self.press("Withdraw the tender", then)
 
     def prices(self, notice: str, lot: str, *units: int) -> None:
-        """Types prices for a lot."""
         self.at(f"offer/{notice}/{lot}", "Tender for")
         for at, unit in enumerate(units):
             self.fill(f"unit-{at}", str(unit))

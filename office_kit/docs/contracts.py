@@ -74,7 +74,6 @@ def first_paragraph(doc: Iterable[str]) -> str:
 
 
 def block_at(line: str) -> Block | None:
-    """The block that a line begins; None if it begins none."""
     found = BLOCK.match(line)
     if not found:
         return None

@@ -32,7 +32,6 @@ class Fault(Exception):
 
 @cache
 def text_of(path: Path) -> str:
-    """A file's text, as it was at the first call."""
     try:
         return path.read_text(encoding="utf-8")
     except (OSError, UnicodeDecodeError) as fault:

@@ -20,9 +20,8 @@ from dataclasses import dataclass
 from pathlib import Path
 
 from office_kit.common import ROOT, files_below
+from office_kit.needs import TOOLS
 
-# The tools that documents use, each with the package of Debian that has it. Tools that every Debian has aren't listed.
-TOOLS = {"curl": "curl", "sqlite3": "sqlite3", "jq": "jq", "openssl": "openssl", "xxd": "xxd", "lslocks": "util-linux", "git": "git", "python3": "python3"}
 # The commands besides `procure` that blocks find on the PATH.
 COMMANDS = {"procure-backup": "deploy/backup.sh", "procure-check": "deploy/check", "audit": "tools/audit", "check_tender": "tools/check_tender"}
 # The seconds that a block may take.
@@ -75,12 +74,10 @@ def parts_of(path: str) -> tuple[list[re.Match[str]], str]:
 
 
 def inside(block: re.Match[str]) -> str:
-    """The text of a fenced block, without the indent of its fence."""
     return re.sub(rf"^ {{0,{len(block[1])}}}", "", block[4], flags=re.M).removesuffix("\n")
 
 
 def steps_of(path: str) -> list[Step]:
-    """The blocks of a document that are run."""
     blocks, _ = parts_of(path)
     steps = []
     for block, after in zip(blocks, [*blocks[1:], None]):
@@ -178,7 +175,6 @@ def links_of(path: str) -> Iterator[tuple[int, str]]:
 
 
 def check_link(path: str, line: int, target: str) -> None:
-    """Checks that the file of a link exists, and its anchor."""
     place, _, anchor = target.partition("#")
     file = os.path.normpath(os.path.join(os.path.dirname(path), place)) if place else path
     if place.startswith("/") or file.startswith("..") or not os.path.exists(os.path.join(ROOT, file)):

@@ -40,7 +40,6 @@ class Table(NamedTuple):
 
 
 def table_in(text: str) -> Table:
-    """The table that a source creates."""
     found, record = CREATE.search(text), RECORD.search(text)
     if not found or not record:
         raise Fault("crates/office_tables/src/tables: a source without a CREATE or a record")
@@ -48,6 +47,11 @@ def table_in(text: str) -> Table:
     columns = [name for part in without_nested(r"\([^()]*\)", found[2]).split(",") for name in COLUMN.findall(part)[:1]]
     own = key[1].split(", ") if key else [part.split()[0] for part in found[2].split(", ") if "PRIMARY KEY" in part]
     return Table(found[1], record[1], own, columns)
+
+
+def tables() -> list[Table]:
+    """The tables of an office, in the order of their sources."""
+    return [table_in(text_of(path)) for path in sorted((ROOT / "crates/office_tables/src/tables").glob("*.rt"))]
 
 
 def references() -> Iterator[tuple[str, list[str], str]]:
@@ -79,10 +83,9 @@ def node_of(table: Table, referring: list[str]) -> str:
 
 def tables_dot() -> str:
     """The source of the drawing. A table has no arrow to one that its row of another table leads to by the same column."""
-    tables = [table_in(text_of(path)) for path in sorted((ROOT / "crates/office_tables/src/tables").glob("*.rt"))]
-    name_of, found = {it.record: it.name for it in tables}, list(references())
+    name_of, found = {it.record: it.name for it in tables()}, list(references())
     lines, arrows = [], []
-    for table in tables:
+    for table in tables():
         referred = [(columns, name_of[other]) for record, columns, other in found if record == table.record]
         wider = {column for columns, _ in referred if len(columns) > 1 for column in columns}
         lines.append(node_of(table, list(dict.fromkeys(column for columns, _ in referred for column in columns))))

@@ -81,7 +81,6 @@ class Maker:
 
 
 def sections_of(text: str) -> list[str]:
-    """The anchors of a document's sections."""
     return [slug_of(head) for head in re.findall(r"^## (.+)$", text, re.M)]
 
 

@@ -27,7 +27,6 @@ def lines_of_call(call: Call) -> list[str]:
 
 
 def calls() -> tuple[list[str], str]:
-    """The lines of the document, and the summary to print. A crate comes after those that it uses."""
     lines, found = opening(HEAD), list[Call]()
     for crate in (name for name in crates_of(ROOT) if name in crates_of_the_program()):
         public = {path: own for path in sources_of(crate) if (own := public_calls_of(crate, path))}

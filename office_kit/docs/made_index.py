@@ -34,7 +34,6 @@ def entry_text(comment: str, name: str, *others: str) -> str:
 
 
 def index() -> tuple[list[str], str]:
-    """The lines of the document, and the summary to print."""
     sources = {crate.name: of_crate for crate in crates() if (of_crate := sources_of(crate.name))}
     if not sources:
         raise Fault("crates/*/specs: there is no definition")

@@ -76,5 +76,4 @@ def manual_of(name: str, moment: int) -> bytes:
 
 
 def day_of(moment: int) -> str:
-    """A day as manual pages have it."""
     return time.strftime("%B %-d, %Y", time.gmtime(moment))

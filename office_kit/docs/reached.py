@@ -69,7 +69,6 @@ class Reached:
                 raise Fault(f"{where}: there is no definition {name} in {place}")
 
     def add(self, definition: Definition) -> None:
-        """Adds a definition, once."""
         key = definition.source.crate, definition.source.module, definition.name
         if key not in self.definitions:
             self.definitions[key] = definition
@@ -82,7 +81,6 @@ class Reached:
             self.add_all(definition.words() - {definition.name}, definition.source.imports, definition.source)
 
     def files(self) -> dict[tuple[str, str], list[Definition]]:
-        """The files that were reached, with the definitions of each that were."""
         found: dict[tuple[str, str], list[Definition]] = {}
         for (crate, module, _), definition in self.definitions.items():
             found.setdefault((crate, module), []).append(definition)

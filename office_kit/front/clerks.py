@@ -1,6 +1,5 @@
 """Clerks who sign in at a front by name, for tests: their roles, and their passwords or certificates, in the files that INSTALL.md names."""
 import base64
-import ctypes
 import itertools
 import secrets
 import subprocess
@@ -28,17 +27,13 @@ def adapted(*changes: Iterable[Change]) -> dict[str, str]:
 
 
 def basic(name: str, password: str) -> str:
-    """The field of the head of a name and a password."""
     return "Basic " + base64.b64encode(f"{name}:{password}".encode()).decode()
 
 
-def bcrypt(password: str) -> str:
-    """The line of a password file, of the cost that `htpasswd -B` takes, by the library that nginx uses."""
-    crypt = ctypes.CDLL("libcrypt.so.1").crypt
-    crypt.restype = ctypes.c_char_p
-    salt = base64.b64encode(secrets.token_bytes(18), b"./").decode()[:22]
-    made: bytes | None = crypt(password.encode(), f"$2y$05${salt}".encode())
-    return made.decode() if made and made.startswith(b"$2y$") else fail("libcrypt makes no bcrypt")
+def password_line(name: str, password: str) -> str:
+    """The line of a password file, as INSTALL.md has it made."""
+    words = [need("htpasswd", "apache2-utils"), "-niB", name]
+    return subprocess.run(words, input=password, check=True, capture_output=True, text=True).stdout.strip() + "\n"
 
 
 def certify(place: str, subject: str, by: str | None = None, *more: str) -> None:
@@ -61,7 +56,7 @@ class Signing:
         self.folder = folder
         self.write("clerks-key.conf", f'set $office_key "{self.key}";\n')
         if self.way == "password":
-            self.write("passwords", "".join(f"{name}:{bcrypt(password)}\n" for name, password in self.passwords.items()))
+            self.write("passwords", "".join(password_line(*it) for it in self.passwords.items()))
         if self.way == "certificate":
             self.certify("clerks", None)
             for name in self.names:
@@ -78,5 +73,4 @@ class Signing:
         certify(f"{self.folder}/{name}", subject or f"/CN={name}", by and f"{self.folder}/{by}")
 
     def fields(self, name: str) -> dict[str, str]:
-        """The fields of the head by which a clerk signs in."""
         return {"Authorization": basic(name, self.passwords.get(name, "wrong"))} if self.way == "password" and name else {}

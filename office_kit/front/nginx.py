@@ -24,8 +24,6 @@ LEDGER_OF_NOW = [("proxy_cache_valid 200 404 409 60s;", 1, "proxy_cache_valid 20
 
 
 class Answer(NamedTuple):
-    """A response of the front."""
-
     status: int
     head: http.client.HTTPMessage
     body: bytes
@@ -96,5 +94,4 @@ def exchange(connection: http.client.HTTPConnection, method: str, target: str, b
 
 
 def fields_of(caller: Caller | None) -> dict[str, str]:
-    """The fields of the head that name a caller."""
     return {name.decode(): value.decode("latin-1") for name, value in zip(FIELDS, caller or ())}

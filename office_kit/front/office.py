@@ -17,8 +17,6 @@ Told = tuple[int, bytes, Mapping[str, str]]
 
 
 class Request(NamedTuple):
-    """A request that came."""
-
     method: str
     path: str
     head: dict[str, str]
@@ -26,8 +24,6 @@ class Request(NamedTuple):
 
 
 class Handler(http.server.BaseHTTPRequestHandler):
-    """A request, which the server answers."""
-
     server: "StandIn"
 
     def do_GET(self) -> None:
@@ -43,7 +39,8 @@ class Handler(http.server.BaseHTTPRequestHandler):
 
 class StandIn(http.server.HTTPServer):
     """A server at a port of its own, which takes requests one after another until the end of its `with`. Its answers are JSON, unless their fields say
-    something else."""
+    something else. (Its thread ends with it, even if a test fails. Else it would poll the number of its closed socket for ever: that takes a processor, and
+    keeps each later socket of that number open for half a second after it is closed.)"""
 
     def __init__(self) -> None:
         super().__init__((HOST, 0), Handler)

@@ -35,7 +35,6 @@ Streams = tuple[asyncio.StreamReader, asyncio.StreamWriter]
 
 
 def request(method: str, path: str, name: str = "", key: str = "", body: bytes = b"") -> bytes:
-    """The bytes of a request."""
     who = f"Office-Caller: {name}\r\nOffice-Key: {key}\r\n" if name else ""
     length = f"Content-Length: {len(body)}\r\n" if body else ""
     return f"{method} {path} HTTP/1.1\r\nHost: office\r\n{who}{length}\r\n".encode() + body
@@ -70,8 +69,6 @@ async def answered(streams: Streams, text: bytes) -> str:
 
 
 class Strangers:
-    """All strangers."""
-
     def __init__(self, port: int, begin: float, lines: int) -> None:
         self.port, self.begin, self.lines, self.counts = port, begin, lines, Counter[str]()
         self.context = ssl.create_default_context()

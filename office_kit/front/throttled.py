@@ -24,7 +24,6 @@ class Front(StandIn):
         super().__init__()
 
     def turn(self) -> tuple[int, str] | None:
-        """The status of a refusal and its `Retry-After`, or None."""
         now = time.monotonic()
         if self.failing > 0:
             self.failing -= 1
@@ -52,7 +51,6 @@ class Front(StandIn):
         return 200, body, {"Last-Modified": email.utils.formatdate(int(time.time()) - age, usegmt=True)}
 
     def body(self, path: str) -> bytes | None:
-        """The saved answer of a path, or None."""
         if path in LISTS:
             return self.read(LISTS[path])
         if path.startswith("/notices?after="):

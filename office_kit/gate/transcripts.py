@@ -41,12 +41,10 @@ def blocks_of(block: str) -> list[str]:
 
 
 def topics() -> list[Topic]:
-    """The files that crates/tests_of_runs/args names, in their order."""
     return [Topic(name) for name in Path(CRATE, "args").read_text(encoding="utf-8").split()]
 
 
 def text_of(line: str) -> str:
-    """The text that a line of a body means."""
     counted = re.fullmatch(r"(\d+) (.*)", line, re.S)
     count, line = (int(counted[1]), counted[2]) if counted else (1, line)
     if line.startswith("> "):
@@ -84,7 +82,6 @@ def answer_of(block: str) -> tuple[str, str, str] | None:
 
 
 def response_of(block: str) -> str:
-    """The whole response of a block."""
     answer = answer_of(block)
     if not answer:
         raise ValueError(f"any answer will do: {block}")

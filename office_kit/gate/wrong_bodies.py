@@ -22,7 +22,6 @@ REFUSED = ("refused", "only by a limit", "only by a proof's names")
 
 
 def came_to(line: str) -> tuple[str, str, str] | None:
-    """The crate and name of the mutant in a line of rt, and its result."""
     found = re.match(r"rt: (?:must-fail |\S*crates/)(\w+)/(?:must-fail/)?(\S+): (.*)", line)
     if found:
         for said, kind in SAID.items():

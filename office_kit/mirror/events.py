@@ -1,6 +1,6 @@
 """The events of a procurement in sentences: one for each release. The texts are those of the screens (web/common/en.js and de.js).
 
-An event is a row of TOLD; web/common/timeline.js has the same rows.
+The tags are those of web/common/timeline.js, in the same order.
 """
 import datetime
 import functools
@@ -10,7 +10,7 @@ import os
 import re
 import sys
 import zoneinfo
-from collections.abc import Callable
+from collections.abc import Iterable
 from typing import Any
 
 from office_kit.mirror.office import Json, Notice
@@ -83,103 +83,65 @@ def time_of(language: str, text: str, is_day: bool = False) -> str:
     return f'<time datetime="{html.escape(text)}" title="{html.escape(moment(language, text))}">{html.escape(moment(language, text, is_day))}</time>'
 
 
-class Teller:
-    """Describes the releases of a notice in a language. Each method returns the name of a head and the sentences."""
-
-    def __init__(self, language: str, notice: Notice) -> None:
-        self.language, self.compiled = language, notice.compiled
-        self.titles = {lot["id"]: lot.get("title", "") for lot in self.compiled["tender"]["lots"]}
-
-    def say(self, text_name: str, /, **values: str | int) -> str:
-        return say(self.language, text_name, **values)
-
-    def money(self, value: Json) -> str:
-        return money(self.language, value)
-
-    def moment(self, text: str) -> str:
-        return moment(self.language, text)
-
-    def lots(self, names: list[str]) -> str:
-        """Lots, by identifier and title."""
-        told = [f"{name} ({self.titles[name]})" if self.titles.get(name) else name for name in names]
-        return f"{self.say('see.lots', count=len(names))} {', '.join(told)}"
-
-    def reason(self, rationale: str) -> str:
-        return " " + self.say("see.reason", text=rationale)
-
-    def published(self, release: Json) -> tuple[str, str]:
-        tender = release["tender"]
-        lots = self.say("see.count.lots", count=len(tender["lots"]))
-        deadline = self.moment(tender["tenderPeriod"]["endDate"])
-        return "published", self.say("see.told.published", lots=lots, amount=self.money(tender["value"]), deadline=deadline)
-
-    def amended(self, release: Json) -> tuple[str, str]:
-        tender = release["tender"]
-        told = self.say("see.told.amended", deadline=self.moment(tender["tenderPeriod"]["endDate"]))
-        return "amended", told + self.reason(tender["amendments"][0]["rationale"])
-
-    def updated(self, release: Json) -> tuple[str, str]:
-        tender = release["tender"]
-        count = tender.get("numberOfTenderers")
-        if count is None:
-            return "nobody", self.say("see.told.nobody", lots=self.lots([lot["id"] for lot in tender["lots"]]))
-        return "opened", self.say("see.told.opened", count=count) if count else self.say("see.told.none")
-
-    def awarded(self, release: Json) -> tuple[str, str]:
-        award = release["awards"][0]
-        name = award["suppliers"][0]["name"]
-        return "awarded", self.say("see.told.awarded", lots=self.lots(award["relatedLots"]), name=name, amount=self.money(award["value"]))
-
-    def failed(self, release: Json) -> tuple[str, str]:
-        (award,) = [it for it in self.compiled["awards"] if it["id"] == release["awards"][0]["id"]]
-        return "passed", self.say("see.told.passed", name=award["suppliers"][0]["name"], lots=self.lots(award["relatedLots"]))
-
-    def cancelled(self, release: Json) -> tuple[str, str]:
-        tender = release["tender"]
-        told = self.say("see.told.cancelled", lots=self.lots([lot["id"] for lot in tender["lots"]]))
-        return "cancelled", told + self.reason(tender["amendments"][0]["rationale"])
-
-    def signed(self, release: Json) -> tuple[str, str]:
-        contract = release["contracts"][0]
-        return "signed", self.say("see.told.signed", contract=contract["id"], amount=self.money(contract["value"]))
-
-    def changed(self, release: Json) -> tuple[str, str]:
-        contract = release["contracts"][0]
-        amendment, value = contract["amendments"][0], contract["value"]
-        # (The office writes a change in English, without groups and currency.)
-        found = re.fullmatch(r"(Raised|Cut) by ([0-9]+)", amendment["description"])
-        change = amendment["description"] if not found else self.say("see.raised" if found[1] == "Raised" else "see.cut",
-                                                                     amount=self.money({**value, "amount": int(found[2])}))
-        told = self.say("see.told.changed", contract=contract["id"], change=change, amount=self.money(value))
-        return "changed", told + self.reason(amendment["rationale"])
-
-    def paid(self, release: Json) -> tuple[str, str]:
-        contract = release["contracts"][0]
-        payment = contract["implementation"]["transactions"][0]
-        return "paid", self.say("see.told.paid", amount=self.money(payment["value"]), name=payment["payee"]["name"], contract=contract["id"])
-
-    def ended(self, release: Json) -> tuple[str, str]:
-        # (The release has only the contract's number.)
-        (contract,) = [it for it in self.compiled["contracts"] if it["id"] == release["contracts"][0]["id"]]
-        paid = sum(it["value"]["amount"] for it in contract.get("implementation", {}).get("transactions", []))
-        amount = self.money(contract["value"])
-        return "ended", self.say("see.told.ended", contract=contract["id"], paid=self.money({**contract["value"], "amount": paid}), amount=amount)
+def lots_told(language: str, compiled: Json, names: Iterable[str]) -> str:
+    titles = {lot["id"]: lot.get("title") for lot in compiled["tender"]["lots"]}
+    told = [f"{name} ({titles[name]})" if titles.get(name) else name for name in names]
+    return f"{say(language, 'see.lots', count=len(told))} {', '.join(told)}"
 
 
-# The method of each tag. If a release has more than one tag, the first one here counts.
-TOLD: list[tuple[str, Callable[[Teller, Json], tuple[str, str]]]] = [
-    ("tenderCancellation", Teller.cancelled), ("awardCancellation", Teller.failed), ("tenderAmendment", Teller.amended),
-    ("contractAmendment", Teller.changed), ("contractTermination", Teller.ended), ("implementation", Teller.paid), ("contract", Teller.signed),
-    ("award", Teller.awarded), ("tenderUpdate", Teller.updated), ("tender", Teller.published)]
+def change_told(language: str, contract: Json) -> str:
+    """The change of a contract, which the office writes in English, without groups and currency."""
+    said = str(contract["amendments"][0]["description"])
+    found = re.fullmatch(r"(Raised|Cut) by ([0-9]+)", said)
+    amount = money(language, {**contract["value"], "amount": int(found[2])}) if found else ""
+    return say(language, "see.raised" if found[1] == "Raised" else "see.cut", amount=amount) if found else said
+
+
+def told_by(tag: str, language: str, compiled: Json, release: Json) -> tuple[str, dict[str, str | int]]:
+    """The sentence of a release with this tag: the end of its name (`see.told.*`) and its values. (An award or a contract that ends has only its number.)"""
+    tender, award, contract = release.get("tender", {}), *(release.get(name, [{}])[0] for name in ("awards", "contracts"))
+    amount, lots = functools.partial(money, language), functools.partial(lots_told, language, compiled)
+    match tag:
+        case "tender":
+            size = say(language, "see.count.lots", count=len(tender["lots"]))
+            return "published", {"lots": size, "amount": amount(tender["value"]), "deadline": moment(language, tender["tenderPeriod"]["endDate"])}
+        case "tenderAmendment":
+            return "amended", {"deadline": moment(language, tender["tenderPeriod"]["endDate"])}
+        case "tenderUpdate" if tender.get("numberOfTenderers") is not None:
+            return "opened" if tender["numberOfTenderers"] else "none", {"count": tender["numberOfTenderers"]}
+        case "tenderUpdate" | "tenderCancellation":
+            return "nobody" if tag == "tenderUpdate" else "cancelled", {"lots": lots(lot["id"] for lot in tender["lots"])}
+        case "award":
+            return "awarded", {"lots": lots(award["relatedLots"]), "name": award["suppliers"][0]["name"], "amount": amount(award["value"])}
+        case "awardCancellation":
+            (award,) = [it for it in compiled["awards"] if it["id"] == award["id"]]
+            return "passed", {"lots": lots(award["relatedLots"]), "name": award["suppliers"][0]["name"]}
+        case "contract":
+            return "signed", {"contract": contract["id"], "amount": amount(contract["value"])}
+        case "contractAmendment":
+            return "changed", {"contract": contract["id"], "change": change_told(language, contract), "amount": amount(contract["value"])}
+        case "implementation":
+            payment = contract["implementation"]["transactions"][0]
+            return "paid", {"contract": contract["id"], "name": payment["payee"]["name"], "amount": amount(payment["value"])}
+    (contract,) = [it for it in compiled["contracts"] if it["id"] == contract["id"]]
+    paid = sum(it["value"]["amount"] for it in contract.get("implementation", {}).get("transactions", []))
+    return "ended", {"contract": contract["id"], "paid": amount({**contract["value"], "amount": paid}), "amount": amount(contract["value"])}
+
+
+# The tags of releases. If a release has more than one, the first one here counts.
+TAGS = ("tenderCancellation", "awardCancellation", "tenderAmendment", "contractAmendment", "contractTermination", "implementation", "contract", "award",
+        "tenderUpdate", "tender")
 
 
 def event(language: str, notice: Notice, release: Json) -> tuple[str, str]:
     """The head and the sentences of a release. A release with an unknown tag shows its tags."""
-    tell = next((tell for tag, tell in TOLD if tag in release["tag"]), None)
-    if tell is None:
+    tag = next((tag for tag in TAGS if tag in release["tag"]), None)
+    if tag is None:
         return ", ".join(release["tag"]), ""
-    head, told = tell(Teller(language, notice), release)
-    return say(language, f"see.head.{head}"), told
+    name, values = told_by(tag, language, notice.compiled, release)
+    amended = [part for part in (release.get("tender", {}), *release.get("contracts", [])) if "amendments" in part]
+    reasons = [say(language, "see.reason", text=part["amendments"][0]["rationale"]) for part in amended]
+    return say(language, f"see.head.{'opened' if name == 'none' else name}"), " ".join([say(language, f"see.told.{name}", **values), *reasons])
 
 
 def state_of(notice: Notice, now: str) -> str:

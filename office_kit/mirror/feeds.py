@@ -17,7 +17,6 @@ def author(notices: list[Notice]) -> str:
 
 
 def address(base: str, language: str, name: str) -> str:
-    """The address of a procurement's page."""
     return f"{base}/data/{language}/{name}.html"
 
 
@@ -61,7 +60,6 @@ def of_notices(base: str, path: str, language: str, notices: list[Notice], now: 
 
 
 def of_events(base: str, path: str, language: str, notices: list[Notice], now: str) -> str:
-    """An entry for each of the newest releases."""
     releases = sorted(((release["date"], release["id"], one, release) for one in notices for release in one.releases), key=lambda it: it[:2], reverse=True)
     entries = []
     for date, number, one, release in releases[:NEWEST]:

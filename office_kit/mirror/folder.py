@@ -33,7 +33,6 @@ class Folder:
         return place
 
     def keep(self, path: str) -> bool:
-        """Takes a file of the run before, if there is one."""
         with contextlib.suppress(FileNotFoundError):
             os.link(os.path.join(self.before, path), self.place(path))
             return True
@@ -91,13 +90,11 @@ class Parted:
         self.length += len(data)
 
     def add(self, text: str) -> int:
-        """A new part; returns its length."""
         data = text.encode()
         self.write(data)
         return len(data)
 
     def copy(self, size: int) -> None:
-        """The next part of the file before."""
         if self.before:
             self.write(self.before.read(size))
 

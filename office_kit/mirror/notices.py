@@ -3,9 +3,10 @@ import html
 import json
 from xml.sax.saxutils import quoteattr
 
+from office_kit.audit.answers import MIRRORED
 from office_kit.mirror.events import LANGUAGES, event, money, number, say, state_of, time_of
 from office_kit.mirror.feeds import address, author, summary
-from office_kit.mirror.office import Json, Notice
+from office_kit.mirror.office import KEPT, Json, Notice
 from office_kit.mirror.tables import Cell, award_rows, lot_rows, tender_rows
 
 # The style of these pages besides the portal's (page.css), which other hosts of the files may not have.
@@ -21,11 +22,9 @@ nav { display: flex; flex-wrap: wrap; gap: 0 1.25rem; }
 """
 # The words of these pages that no screen has.
 WORDS = {"en": {"item": "Item", "quantity": "Quantity", "sum": "Sum after corrections", "portal": "This procurement in the portal", "record": "Record (OCDS)",
-                "terms": "Terms", "minutes": "Minutes of the opening", "evaluation": "Evaluation", "data": "Open data", "what": "What", "value": "Entry"},
+                "terms": "Terms", "minutes": "Minutes of the opening", "evaluation": "Evaluation", "data": "Open data", "what": "What"},
          "de": {"item": "Posten", "quantity": "Menge", "sum": "Summe nach Berichtigung", "portal": "Diese Vergabe im Portal", "record": "Datensatz (OCDS)",
-                "terms": "Bedingungen", "minutes": "Niederschrift der Öffnung", "evaluation": "Wertung", "data": "Offene Daten", "what": "Was",
-                "value": "Angabe"}}
-SOURCES = {"records": "record", "terms": "terms", "minutes": "minutes", "evaluations": "evaluation"}
+                "terms": "Bedingungen", "minutes": "Niederschrift der Öffnung", "evaluation": "Wertung", "data": "Offene Daten", "what": "Was"}}
 # The most letters of a description that a search engine or a preview shows.
 MOST = 300
 
@@ -141,8 +140,7 @@ def portal_of(base: str, language: str, notice: Notice) -> str:
 
 def sources(base: str, language: str, notice: Notice) -> str:
     """The answers of which the page is made, and the portal."""
-    links = [(f"../{folder}/{notice.name}.{'json' if folder in ('records', 'terms') else 'txt'}", WORDS[language][word])
-             for folder, word in SOURCES.items() if folder in notice.texts]
+    links = [(f"../{folder}/{notice.name}{KEPT[folder]}", WORDS[language][kind]) for kind, folder in MIRRORED.items() if folder in notice.texts]
     links.append((portal_of(base, language, notice), WORDS[language]["portal"]))
     return '<ul class="source">\n' + "".join(f"<li><a href={quoteattr(link)}>{html.escape(name)}</a></li>\n" for link, name in links) + "</ul>\n"
 

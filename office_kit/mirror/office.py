@@ -7,7 +7,7 @@ import time
 from dataclasses import dataclass, field
 from typing import Any
 
-from office_kit.audit.answers import Answers
+from office_kit.audit.answers import MIRRORED, OF_NOTICES, Answers
 from office_kit.audit.office import Unreadable
 
 Json = dict[str, Any]
@@ -15,9 +15,7 @@ IDENTIFIER = re.compile(r"[A-Za-z0-9_.-]{1,32}")
 # How often a notice is asked for again if its record isn't that of the list, because a command came in between.
 TRIES = 5
 # The folders of a mirror with the texts of each notice as the office wrote them, and the endings of their files.
-KEPT = {"records": ".json", "terms": ".json", "minutes": ".txt", "evaluations": ".txt"}
-
-
+KEPT = {folder: OF_NOTICES[kind] for kind, folder in MIRRORED.items()}
 # The columns of the ledger, and the seconds after which other titles of lines are asked for.
 LINE, TURN = ("line", "appropriation", "free", "reserved", "contracted", "paid"), 300
 
@@ -75,38 +73,27 @@ class Office:
     def __init__(self, base: str) -> None:
         self.base, self.answers = base.rstrip("/"), Answers(None, base.rstrip("/"))
 
-    def ask(self, path: str) -> str | None:
-        return self.answers.ask(path)
-
     def must(self, path: str) -> str:
-        text = self.ask(path)
+        text = self.answers.ask(path)
         if text is None:
             raise Unreadable(f"{self.base}{path}: the office has no such page")
         return text
 
     def notices(self) -> list[Json]:
-        """All notices, page by page."""
-        found: list[Json] = []
-        after = ""
-        while True:
-            page = json.loads(self.must("/notices" + (f"?after={after}" if after else "")))
-            found += page["notices"]
-            # (Names become names of files, and the answers may be anybody's.)
-            names = [after, *(row["notice"] for row in page["notices"])]
-            if not all(IDENTIFIER.fullmatch(name) for name in names[1:]) or names != sorted(set(names)):
-                raise Unreadable(f"{self.base}/notices: these aren't notices sorted by name: {names[:5]}")
-            if page["next"] is None:
-                return found
-            if page["next"] != names[-1]:
-                raise Unreadable(f"{self.base}/notices: the next page begins at {page['next']!r}, and this one ends with {names[-1]!r}")
-            after = page["next"]
+        found = self.answers.listed()
+        if found is None:
+            raise Unreadable(f"{self.base}/notices: the office has no such page")
+        # (Names become names of files, and the answers may be anybody's.)
+        names = [str(row.get("notice")) for row in found]
+        if not all(map(IDENTIFIER.fullmatch, names)) or names != sorted(set(names)):
+            raise Unreadable(f"{self.base}/notices: these aren't notices sorted by name: {names[:5]}")
+        return found
 
     def notice(self, row: Json) -> Notice:
         """A notice, fetched so that its record has at least as many releases as the list says."""
         name = row["notice"]
-        paths = {"records": "record", "terms": "terms", "minutes": "minutes", "evaluations": "evaluation"}
         for _ in range(TRIES):
-            texts = {folder: self.ask(f"/notices/{name}/{path}") for folder, path in paths.items()}
+            texts = {folder: self.answers.ask(f"/notices/{name}/{kind}") for kind, folder in MIRRORED.items()}
             if texts["records"] is None or texts["terms"] is None:
                 raise Unreadable(f"{self.base}: {name} is in the list but has no record or no terms")
             found = Notice(row, now(), {folder: text for folder, text in texts.items() if text is not None})
@@ -156,6 +143,5 @@ def saved(*path: str) -> str | None:
 
 
 def texts_in(folder: str, name: str) -> dict[str, str]:
-    """The answers about a notice that a mirror has, by their folders."""
     texts = {kind: saved(folder, kind, name + end) for kind, end in KEPT.items()}
     return {kind: text for kind, text in texts.items() if text is not None}

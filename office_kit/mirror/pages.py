@@ -77,7 +77,6 @@ def page(base: str, told: dict[str, tuple[int, str]], notices: list[Notice], row
 
 
 def files_table(files: list[tuple[str, int, str]]) -> str:
-    """Makes a table of files, which says what each has."""
     means = {**{f"{name}.csv": text for name, text in MEANS.items()}, **OTHERS, **OWN}
     rows = [f"<tr><td><a href={quoteattr(name)}>{html.escape(name)}</a></td><td>{html.escape(means[name])}</td><td>{length:,}</td>"
             f"<td><code>{digest}</code></td></tr>\n" for name, length, digest in files]
@@ -110,7 +109,6 @@ def dataset(base: str, notices: list[Notice], city: dict[str, Any]) -> str:
 
 
 def licence_told(city: dict[str, Any]) -> str:
-    """The licence of the data, if the city names one."""
     for it in licence_of(city):
         name = html.escape(it.get("title") or it.get("name") or it["path"])
         path = it.get("path", "")
@@ -123,7 +121,6 @@ def year_of(row: Json) -> str:
 
 
 def years_told(rows: dict[str, Json]) -> str:
-    """A link to the list of each year."""
     return ", ".join(f'<a href="notices-{year}.html">{year}</a>' for year in sorted({year_of(row) for row in rows.values()}, reverse=True)) or "–"
 
 

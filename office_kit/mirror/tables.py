@@ -24,7 +24,6 @@ def guarded(text: str) -> str:
 
 
 def plain(cell: str) -> str:
-    """The text that such a cell has."""
     return GUARDED.sub(r"\1\2", cell)
 
 
@@ -43,7 +42,6 @@ def rows_text(name: str, rows: Iterable[Json], folder: str = "") -> str:
 
 
 def head_of(name: str, folder: str = "") -> str:
-    """The beginning of a table: its row of names."""
     separator, mark = FORMS[folder]
     return mark + separator.join(COLUMNS[name]) + "\r\n"
 
@@ -53,7 +51,6 @@ def table(name: str, rows: Iterable[Json], folder: str = "") -> str:
 
 
 def tenderer_of(party: Json) -> str:
-    """The office's identifier of a party."""
     return str(party["id"]).removeprefix("T-")
 
 
@@ -93,7 +90,6 @@ def transactions_of(contract: Json) -> list[Json]:
 
 
 def ends_of(notice: Notice) -> dict[str, str]:
-    """When each contract ended."""
     ended = [release for release in notice.releases if "contractTermination" in release["tag"]]
     return {contract["id"]: release["date"] for release in ended for contract in release["contracts"]}
 
@@ -123,12 +119,10 @@ def lot_rows(notice: Notice) -> Iterator[Json]:
     for lot in notice.terms["lots"]:
         award, contract = awards.get(lot["id"], {}), contracts.get(lot["id"], {})
         count = sum(row["lot"] == lot["id"] for row in tenders) if "minutes" in notice.texts else None
-        yield {"notice": notice.name, "lot": lot["id"], "title": lot["title"], "line": lot["line"], "currency": currency_of(notice),
-               "estimate": lot["estimate"], "security": lot["security"], "status": status[lot["id"]], "items": len(lot["items"]), "tenders": count,
-               "winner": award.get("tenderer"),
-               "winner_name": award.get("name"), "price": award.get("price"), "contract": contract.get("contract"),
-               "contract_status": contract.get("status"), "worth": contract.get("worth"),
-               "paid": contract.get("paid")}
+        yield {"notice": notice.name, "lot": lot["id"], **{name: lot[name] for name in ("title", "line", "estimate", "security")},
+               "currency": currency_of(notice), "status": status[lot["id"]], "items": len(lot["items"]), "tenders": count, "winner": award.get("tenderer"),
+               "winner_name": award.get("name"), "price": award.get("price"), "contract_status": contract.get("status"),
+               **{name: contract.get(name) for name in ("contract", "worth", "paid")}}
 
 
 def item_rows(notice: Notice) -> Iterator[Json]:
@@ -169,5 +163,4 @@ def whole(name: str, rows: list[Json]) -> dict[str, str]:
 
 
 def titles_of(budget: str) -> dict[str, str]:
-    """The titles of the lines in a table of budget lines."""
     return {row["line"]: plain(row["title"]) for row in csv.DictReader(io.StringIO(budget, newline=""))}

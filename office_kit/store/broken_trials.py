@@ -7,6 +7,7 @@ from collections.abc import Callable, Iterator
 from typing import Any, NamedTuple
 
 from office_kit.client import budget, notice, text_of
+from office_kit.docs.drawn_tables import references, tables
 from office_kit.store.files import scripts_of
 from office_kit.store.life import Life, offer, part
 
@@ -86,35 +87,12 @@ MOVES = {
 
 
 # Which rows refer to which: a table, its columns, and the table whose key they are (crates/office_machine/specs/Parents.antt). A seal and a security have the
-# number of a receipt, a contract and its performance security that of an award (specs/References.antt there).
-REFERENCES = [tuple(line.split(" > ")) for line in """\
-lots > notice > notices_2
-lots > line > lines
-envelopes > notice > notices_2
-envelopes > notice, lot > lots
-envelopes > tenderer > tenderers
-envelopes > security > securities
-seals > receipt > envelopes
-securities > notice > notices_2
-securities > notice, lot > lots
-securities > tenderer > tenderers
-securities > security > envelopes
-awards > notice > notices_2
-awards > notice, lot > lots
-awards > receipt > envelopes
-contracts > notice > notices_2
-contracts > notice, lot > lots
-contracts > tenderer > tenderers
-contracts > contract > awards
-entries > contract > contracts
-entries > contract > awards
-performance > contract > contracts
-performance > contract > awards
-releases > notice > notices_2
-compiled > notice > notices_2
-late_rules > notice > notices_2""".splitlines()]
-KEYS = {"notices_2": "notice", "lots": "notice, lot", "lines": "line", "tenderers": "tenderer", "envelopes": "receipt", "securities": "security",
-        "awards": "award", "contracts": "contract"}
+# number of a receipt; a contract, its entries and its performance security that of an award (specs/References.antt there).
+TABLES = {table.record: table for table in tables()}
+KEYS = {table.name: ", ".join(table.key) for table in TABLES.values()}
+REFERENCES = [(TABLES[record].name, ", ".join(columns), TABLES[other].name) for record, columns, other in references()]
+REFERENCES += [("seals", "receipt", "envelopes"), ("securities", "security", "envelopes"),
+               *((child, "contract", "awards") for child in ("contracts", "entries", "performance"))]
 # A command's own row, and the tables of which it needs the row that its own row leads to. It may be accepted without a row of another table.
 TENDER, AWARDED, SIGNED = "notices_2 lots tenderers securities", "notices_2 lots lines envelopes securities", "notices_2 lots lines"
 NEEDS = {
@@ -152,18 +130,16 @@ class Trial(NamedTuple):
 
 # The commands that publish a release, and its notice. Two of them are also tried over notices of which only some releases are missing.
 PUBLISHING = {"amend_notice": "R", "cancel": "R", "open": "F", "award": "A", "fail": "W", "sign": "W", "raise": "C", "pay": "C", "end": "C"}
-GROUPS = {"each publication": [*PUBLISHING], "fail and pay": ["fail", "pay"]}
 
 
 def missing_rows() -> Iterator[Trial]:
-    """Each command without each row that its own row leads to."""
     for command, (own, where, needed) in NEEDS.items():
         found = {own: where}
         while more := {parent: f"({KEYS[parent]}) IN (SELECT {columns} FROM {child} WHERE {found[child]})"
                        for child, columns, parent in REFERENCES if child in found and parent not in found}:
             found.update(more)
         for table, rows in found.items():
-            if own in KEYS or table != own:
+            if own in THINGS or table != own:
                 says = REPORTED.get((command, table), THINGS[own] if table == own else "" if table in needed.split() else MAY)
                 yield Trial(f"{command}, no row in {table}", command, f"DELETE FROM {table} WHERE {rows};", says)
 
@@ -184,5 +160,5 @@ def trials() -> Iterator[Trial]:
     yield from taken_keys()
     for (head,), script in scripts_of("broken_trials.sql"):
         group, what, *says = head.split(": ")
-        for command in GROUPS.get(group, [group]):
+        for command in PUBLISHING if group == "each publication" else group.split(" and "):
             yield Trial(f"{command}, {what}", command, script.replace("{notice}", PUBLISHING.get(command, "")), *says)

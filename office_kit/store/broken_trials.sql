@@ -1,6 +1,6 @@
--- The trials of tests/store/test_broken.py that the table of references doesn't make. The comment before a script has a command, the missing or wrong rows, and
--- the refusal that reports them, besides `Unavailable`. After a script with "may be accepted" or "is made anew" the command may be accepted.
--- office_kit/store/broken_trials.py has the commands and fills the names in braces.
+-- The trials of tests/store/test_broken.py that the table of references doesn't make. The comment before a script has a command, or two with `and` between, the
+-- missing or wrong rows, and the refusal that reports them, besides `Unavailable`. After a script with "may be accepted" or "is made anew" the command may be
+-- accepted. office_kit/store/broken_trials.py has the commands and fills the names in braces.
 
 -- import: its line: NoSuch line
 DELETE FROM lines WHERE line = '1000';
@@ -35,9 +35,7 @@ DELETE FROM securities WHERE security = {W1};
 DELETE FROM tenderers WHERE tenderer = 'T3';
 -- open: a tender's bytes
 DELETE FROM seals WHERE receipt = {F1};
--- modify: its bytes
-DELETE FROM seals WHERE receipt = {R1};
--- withdraw: its bytes
+-- modify and withdraw: its bytes
 DELETE FROM seals WHERE receipt = {R1};
 -- withdraw, late: what its notice says of it: DeadlinePassed
 DELETE FROM late_rules WHERE notice = 'F';
@@ -53,20 +51,14 @@ DELETE FROM securities WHERE security = {A3};
 UPDATE lots SET reserved = 1000000 WHERE notice = 'A' AND lot = 'L2';
 -- sign: an award at another price than its lot reserves
 UPDATE awards SET price = price + 1 WHERE award = {awarded};
--- raise: more paid than signed
+-- raise and end: more paid than signed
 UPDATE entries SET amount = 100000 WHERE contract = {contract} AND entry = 'P1';
--- cut: more paid than signed: MoreThanOutstanding
+-- cut and pay: more paid than signed: MoreThanOutstanding
 UPDATE entries SET amount = 100000 WHERE contract = {contract} AND entry = 'P1';
--- cut: all of its line free
+-- cut and end: all of its line free
 UPDATE lines SET free = appropriation;
--- pay: more paid than signed: MoreThanOutstanding
-UPDATE entries SET amount = 100000 WHERE contract = {contract} AND entry = 'P1';
 -- end: its performance security
 DELETE FROM performance WHERE contract = {contract};
--- end: more paid than signed
-UPDATE entries SET amount = 100000 WHERE contract = {contract} AND entry = 'P1';
--- end: all of its line free
-UPDATE lines SET free = appropriation;
 -- A publication compares the numbers of all releases with the notice's count. It continues from their merge, or from all releases if the merge isn't kept.
 -- It reads only texts as the office writes them.
 

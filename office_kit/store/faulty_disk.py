@@ -42,7 +42,6 @@ class FaultyDisk:
         self.fields[SECOND] = second
 
     def place(self) -> str | None:
-        """The file whose call failed, or None if none did."""
         return PLACES.get(self.fields[PLACE])
 
 
@@ -60,7 +59,6 @@ class SmallDisk:
             os.remove(os.path.join(self.folder, name))
 
     def leave(self, pages: int) -> None:
-        """Leaves space for so many pages."""
         with open(self.ballast, "wb") as file:
             os.posix_fallocate(file.fileno(), 0, shutil.disk_usage(self.folder).free - pages * self.PAGE)
 

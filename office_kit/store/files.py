@@ -32,7 +32,6 @@ def scripts_of(name: str | Path, mark: str = "-- ") -> list[tuple[list[str], str
 
 
 def made_line(path: str) -> str:
-    """The line that says that an office was made in a file."""
     return f"procure: an empty office was made in {path}\n"
 
 
@@ -43,12 +42,10 @@ def printed(program: str, path: str, *words: str, **how: Any) -> "subprocess.Com
 
 
 def told(ran: "subprocess.CompletedProcess[str]") -> tuple[int, str, str]:
-    """The status of a run, its output and its lines on standard error."""
     return ran.returncode, ran.stdout, ran.stderr
 
 
 def ledger_of(program: str, path: str) -> str:
-    """The ledger that the program prints."""
     ran = printed(program, path)
     check(f"{path}: the program ended with {ran.returncode}: {ran.stderr}", not ran.returncode)
     return ran.stdout
@@ -93,7 +90,6 @@ def sums_in(path: str, lines: str = "SELECT line FROM lines") -> list[tuple[Any,
 
 
 def unlike(some: dict[str, Any], others: dict[str, Any]) -> list[str]:
-    """The tables whose rows differ."""
     return sorted(name for name in some.keys() | others.keys() if some.get(name) != others.get(name))
 
 

@@ -7,26 +7,11 @@
 -- what was handed out: saved_notices_are_there notices N7
 -- an earlier copy: rows_of_an_earlier_copy_stay notices N7
 -- the log of the clerks: lines_have_a_command front /notices/N7
-DELETE FROM releases WHERE notice = 'N7';
-DELETE FROM compiled WHERE notice = 'N7';
-DELETE FROM lots WHERE notice = 'N7';
-DELETE FROM notices_2 WHERE notice = 'N7';
-CREATE TEMP TABLE t AS SELECT * FROM releases ORDER BY rowid;
-DELETE FROM releases;
-INSERT INTO releases SELECT * FROM t ORDER BY rowid;
-DROP TABLE t;
-CREATE TEMP TABLE t AS SELECT * FROM compiled ORDER BY rowid;
-DELETE FROM compiled;
-INSERT INTO compiled SELECT * FROM t ORDER BY rowid;
-DROP TABLE t;
-CREATE TEMP TABLE t AS SELECT * FROM lots ORDER BY rowid;
-DELETE FROM lots;
-INSERT INTO lots SELECT * FROM t ORDER BY rowid;
-DROP TABLE t;
-CREATE TEMP TABLE t AS SELECT * FROM notices_2 ORDER BY rowid;
-DELETE FROM notices_2;
-INSERT INTO notices_2 SELECT * FROM t ORDER BY rowid;
-DROP TABLE t;
+{without_N7}
+UPDATE releases SET rowid = (SELECT count(*) FROM releases AS upto WHERE upto.rowid <= releases.rowid);
+UPDATE compiled SET rowid = (SELECT count(*) FROM compiled AS upto WHERE upto.rowid <= compiled.rowid);
+UPDATE lots SET rowid = (SELECT count(*) FROM lots AS upto WHERE upto.rowid <= lots.rowid);
+UPDATE notices_2 SET rowid = (SELECT count(*) FROM notices_2 AS upto WHERE upto.rowid <= notices_2.rowid);
 -- a late tender is shown as withdrawn in time
 -- what was handed out: receipts_are_of_the_rows envelopes {late}
 -- what was handed out: registers_are_of_the_rows envelopes {late}

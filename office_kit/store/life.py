@@ -51,9 +51,6 @@ class Life(Client[Answer]):
         """Presents a tender, with a security of its name if an amount is given."""
         self.keep(named, self.present(who, name, lot_name, body, named if amount else None, amount))
 
-    def resubmit(self, named: str, who: str, old: str, body: str) -> None:
-        self.keep(named, self.modify(who, self.receipt[old], body))
-
     def keep(self, named: str, answer: Answer) -> None:
         self.receipt[named] = answer["receipt"]
         self.kept[answer["receipt"]] = answer
@@ -93,7 +90,8 @@ class AuditedLife(Life):
 
     def names(self) -> dict[str, object]:
         moments = {name: text_of(self.deadline + later) for name, later in (("moved", 90_000), ("further", 180_000), ("start", 20_000_000))}
-        return {**super().names(), "active": self.active, "in_time": self.deadline - 1, **moments}
+        without = "\n".join(f"DELETE FROM {table} WHERE notice = 'N7';" for table in ("releases", "compiled", "lots", "notices_2"))
+        return {**super().names(), "active": self.active, "in_time": self.deadline - 1, "without_N7": without, **moments}
 
     def before_the_deadline(self) -> None:
         """The budget, the tenderers, eight notices and their tenders. N3 is cancelled, N5 continues to receive, and tenders for N8 may be withdrawn late."""
@@ -105,7 +103,7 @@ class AuditedLife(Life):
         self.submit("taken", "T3", "N1", "L1", offer(80, 20), 50)
         self.submit("quoted", "T4", "N1", "L1", '"' + offer(1, 1), 50)
         self.submit("nothing", "T1", "N1", "L2", "I offer nothing")
-        self.resubmit("cheap", "T2", "first", offer(80, 30))
+        self.keep("cheap", self.modify("T2", self.receipt["first"], offer(80, 30)))
         self.take_back("T3", "taken")
         self.submit("other", "T3", "N1", "L1", offer(80), 55)
         for named, who, price in (("low", "T1", 20), ("high", "T2", 25), ("unfit", "T3", 10)):
@@ -135,7 +133,6 @@ class AuditedLife(Life):
         self.announce("N8", self.deadline, part("L1", "1000", 100, 10), late_withdrawal="forfeits", performance=5)
 
     def after_the_deadline(self) -> None:
-        """Late tenders, the openings, and the further steps of each notice."""
         self.wait()
         self.submit("late", "T5", "N1", "L1", offer(1, 1), 50)
         for name in ("N1", "N2", "N4", "N6", "N7", "N8"):

@@ -131,10 +131,7 @@ UPDATE releases SET text = replace(text, 'tenderAmendment', 'planning') WHERE no
 -- A procurement that is deleted whole, but for the places of rows; an entry from before its place; lines, tenders and texts that no office makes.
 
 -- rows_came_one_after_another releases N8/1
-DELETE FROM releases WHERE notice = 'N7';
-DELETE FROM compiled WHERE notice = 'N7';
-DELETE FROM lots WHERE notice = 'N7';
-DELETE FROM notices_2 WHERE notice = 'N7';
+{without_N7}
 -- rows_came_one_after_another entries {contract}/P2
 UPDATE entries SET moment = moment - 100 WHERE entry = 'P2';
 -- lines_come_from_batches office 2
@@ -150,10 +147,7 @@ UPDATE compiled SET text = replace(text, '"amount":400,', '"amount":700,') WHERE
 
 -- saved_notices_are_there notices N7
 -- --answers answers
-DELETE FROM releases WHERE notice = 'N7';
-DELETE FROM compiled WHERE notice = 'N7';
-DELETE FROM lots WHERE notice = 'N7';
-DELETE FROM notices_2 WHERE notice = 'N7';
+{without_N7}
 -- tenders_stay_from_the_deadline_on envelopes {quoted}
 -- --earlier behind.db
 UPDATE envelopes SET state = 'withdrawn' WHERE receipt = {quoted};

@@ -31,7 +31,6 @@ class Logged(Port):
         return answer
 
     def note(self, target: str, status: int, body: bytes = b"", seconds: float = 0.0, name: str = "") -> None:
-        """Adds a line."""
         # (`gmtime()` alone reads a coarse clock, which may be some milliseconds before the office's.)
         moment = time.gmtime(time.time())
         own, roles = next((known, roles) for known, roles, routes in NAMES if name in ("", known) and (name or re.fullmatch(routes, target)))
@@ -45,7 +44,6 @@ def text_of(lines: list[Json]) -> bytes:
 
 
 def at(lines: list[Json], route: str) -> int:
-    """The place of the last line of a route."""
     return max(place for place, line in enumerate(lines) if line["route"] == f"POST {route}")
 
 

@@ -1,13 +1,7 @@
-"""The parts of tests that refuse memory: the library that does it (refusing.c), and plays of the transcripts."""
+"""The parts of tests that refuse memory by the library of refusing.c: what it counted, and plays of the transcripts."""
 import re
 
-from office_kit.common import made_shim
 from office_kit.gate.transcripts import topics
-
-
-def refusing(folder: str) -> str:
-    """The library, made in a folder."""
-    return made_shim("store/refusing.c", folder)
 
 
 def counted(errors: str) -> tuple[int, int]:

@@ -1,15 +1,13 @@
-"""Offices that are served, each over a file, for tests, and servers that answer in the place of one."""
+"""Offices that are served, each over a file, for tests. (office_kit/front/office.py has servers that answer in the place of one.)"""
 import contextlib
-import http.server
 import os
 import subprocess
-import threading
 from collections.abc import Iterator
 from dataclasses import dataclass
 from typing import Any
 
 from office_kit.client import PATIENCE, Answer, Client, Port
-from office_kit.common import CONFIG, HOST, check, free_port, running, serve_words, wait_for
+from office_kit.common import CONFIG, check, free_port, running, serve_words, wait_for
 
 MANY = 1_000_000
 
@@ -56,29 +54,3 @@ class Serving(contextlib.ExitStack):
         """An office, by `served`."""
         self.count += 1
         return self.enter_context(served(self.program, file or os.path.join(self.folder, f"office-{self.count}.db"), **how))
-
-
-class Handler(http.server.BaseHTTPRequestHandler):
-    """Answers a request, and prints nothing."""
-
-    def tell(self, status: int, body: bytes, **fields: str) -> None:
-        self.send_response(status)
-        for name, value in {**fields, "Content-Length": str(len(body))}.items():
-            self.send_header(name, value)
-        self.end_headers()
-        self.wfile.write(body)
-
-    def log_message(self, *_: object) -> None:
-        """Nothing is printed."""
-
-
-@contextlib.contextmanager
-def answered_by(handler: type[Handler]) -> Iterator[str]:
-    """The address of a server that answers so while this lasts. (Its thread ends with it, even if a test fails. Else it would poll the number of its closed
-    socket for ever: that takes a processor, and keeps each later socket of that number open for half a second after it is closed.)"""
-    with http.server.ThreadingHTTPServer((HOST, 0), handler) as listener:
-        threading.Thread(target=listener.serve_forever, daemon=True).start()
-        try:
-            yield f"http://{HOST}:{listener.server_port}"
-        finally:
-            listener.shutdown()

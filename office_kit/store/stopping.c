@@ -29,10 +29,4 @@ int open(const char *path, int flags, ...) {
     if (flags & O_CREAT) step();
     return real(path, flags, mode);
 }
-int open64(const char *path, int flags, ...) {
-    va_list rest;
-    va_start(rest, flags);
-    int mode = flags & O_CREAT ? va_arg(rest, int) : 0;
-    va_end(rest);
-    return open(path, flags, mode);
-}
+int open64(const char *path, int flags, ...) __attribute__((alias("open")));

@@ -7,7 +7,7 @@ import pytest
 
 from office_kit.desks import clerk_checks, clerk_more, clerk_names
 
-pytestmark = [pytest.mark.needs("nginx", "openssl"), pytest.mark.nginx, pytest.mark.xdist_group("desks")]
+pytestmark = [pytest.mark.needs("nginx", "openssl", "htpasswd"), pytest.mark.nginx, pytest.mark.xdist_group("desks")]
 
 
 @pytest.mark.parametrize("one", [*clerk_checks.CHECKS, *clerk_more.CHECKS, *clerk_names.CHECKS], ids=lambda one: one.__name__)

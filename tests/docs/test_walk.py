@@ -8,22 +8,23 @@ import pytest
 
 from office_kit.common import FIELDS, free_port, need
 from office_kit.docs import documents
-from office_kit.store.served import Handler, answered_by
+from office_kit.front.office import StandIn
+from office_kit.needs import TOOLS
 
 WALK = "README.md"
 PORT = re.compile(r"^port=\d+$", re.M)
 
 
-class Other(Handler):
+class Other(StandIn):
     """Gives all requests the same answer, and keeps them."""
 
-    told, came = (200, b""), []
+    def __init__(self, status, body):
+        self.told, self.came = (status, body, {}), []
+        super().__init__()
 
-    def answer(self):
-        self.came.append((self.command, self.path, [name.decode() for name in FIELDS if self.headers[name.decode()] is not None]))
-        self.tell(*self.told)
-
-    do_GET = do_POST = answer
+    def answer(self, request):
+        self.came.append((request.method, request.path, [name.decode() for name in FIELDS if name.decode() in request.head]))
+        return self.told
 
 
 def steps_at(port):
@@ -34,7 +35,7 @@ def steps_at(port):
         found += count
     assert found == 1 and any(step.shown for step in steps)
     for tool in documents.missing_tools(steps):
-        need(tool, documents.TOOLS[tool])
+        need(tool, TOOLS[tool])
     return steps
 
 
@@ -45,7 +46,6 @@ def test_walk(program):
 @pytest.mark.parametrize("told", [(200, b"<html>hello</html>"), (404, b""), (200, b"LEDGER\nline\n")], ids=["something_else", "nothing", "as_an_office"])
 def test_other_program(program, told):
     """The answers of another program at the port to any request: something of its own, an error, and an office's page."""
-    Other.told, Other.came = told, []
-    with answered_by(Other) as address, pytest.raises(documents.Wrong):
-        documents.run_steps(WALK, steps_at(address.rpartition(":")[2]), program)
-    assert [it for it in Other.came if it[0] != "GET" or it[2]] == []
+    with Other(*told) as other, pytest.raises(documents.Wrong):
+        documents.run_steps(WALK, steps_at(other.port), program)
+    assert [it for it in other.came if it[0] != "GET" or it[2]] == []

@@ -27,7 +27,7 @@ from office_kit.front.office import Office
 from office_kit.store.life import AuditedLife
 from office_kit.store.planted_lines import NAMES as NAMED
 
-pytestmark = [pytest.mark.needs("nginx", "openssl", "curl"), pytest.mark.nginx]
+pytestmark = [pytest.mark.needs("nginx", "openssl", "curl", "htpasswd"), pytest.mark.nginx]
 PLANTS = tomllib.loads(Path(__file__).with_suffix(".toml").read_text(encoding="utf-8"))
 SMALLER = PLANTS.pop("smaller")
 ROLES = {"anna": "notices", "bert": "budget", "cora": "evaluation", "dora": "contracts", "emil": "all", "fred": "notices contracts"}

@@ -10,7 +10,6 @@ pytestmark = pytest.mark.time
 MEASURES = {
     "desk": "bench/desk --count 20 --rounds 1",
     "year": "bench/year --notices 1 --size 200 --rounds 1",
-    "year_in_files": "bench/year --notices 1 --size 200 --rounds 1 --page-sizes 4096,1024",
     "serve": "bench/serve --count 10 --lines 10 --rounds 1 --page-sizes 4096,1024",
     "record": "bench/record --counts 2,4 --merges 4,8 --rounds 2 --page-sizes 4096,1024",
     "present": "bench/present --many 4 --few 2 --rounds 3 --times 1 --page-sizes 4096,1024",
@@ -30,9 +29,7 @@ def run(line, *more):
 
 
 @pytest.mark.parametrize("line", MEASURES.values(), ids=MEASURES)
-def test_measure(request, line):
-    """(bench/year puts a library before the C library to set the program's clock.)"""
-    program = request.getfixturevalue("plain_program" if line.startswith("bench/year") and "--page-sizes" in line else "program")
+def test_measure(program, line):
     status, said = run(line, "--program", program)
     assert status == 0, said
 

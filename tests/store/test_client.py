@@ -12,7 +12,7 @@ from office_kit.client import Client, Front, Port, Requests, budget
 from office_kit.common import FIELDS, HOST
 from office_kit.front.checks import routes
 from office_kit.front.office import StandIn
-from office_kit.store.served import Handler, answered_by, served
+from office_kit.store.served import served
 
 DEADLINE = "2099-03-01T12:00:00Z"
 # The arguments of each method.
@@ -86,7 +86,7 @@ def test_an_office_that_does_not_start(program, tmp_path):
 
 def test_a_thread_ends_with_a_failing_test():
     before = threading.active_count()
-    with pytest.raises(AssertionError), answered_by(Handler):
+    with pytest.raises(AssertionError), StandIn():
         raise AssertionError
     assert threading.active_count() == before
 

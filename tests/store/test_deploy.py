@@ -20,7 +20,7 @@ from unittest import mock
 import pytest
 
 from office_kit.common import CONFIG, ROOT, planted, stand_in
-from office_kit.store.served import Handler, answered_by
+from office_kit.front.office import NO_NOTICES, StandIn
 
 CHECK = os.path.join(ROOT, "deploy", "check")
 UNITS = {path.name: path.read_text(encoding="utf-8") for path in sorted(Path(ROOT, "deploy").iterdir()) if path.suffix in (".service", ".timer")}
@@ -271,15 +271,15 @@ def test_front(trial):
     for place, is_link in ((enabled / "procure.conf", True), (enabled / "old", False)):
         place.symlink_to(trial.front / "procure.conf") if is_link else place.write_text("map $http_office_caller $a {}", encoding="utf-8")
         for status, body, wanted in ((200, b"0.5.0 (ab12)\n", OK), (200, b"0.5.0 (cd34)\n", CRITICAL), (404, b"0.5.0 (ab12)\n", CRITICAL)):
-            with answering(status, body, "/front-version") as address:
-                trial.says(wanted, place.name if wanted else "runs the front of the package", "front", "--ways", address)
-        trial.says(CRITICAL, "Connection refused", "front", "--ways", address)
+            with Answering(status, body, "/front-version") as server:
+                trial.says(wanted, place.name if wanted else "runs the front of the package", "front", "--ways", server.address)
+        trial.says(CRITICAL, "Connection refused", "front", "--ways", server.address)
         place.unlink()
     (enabled / "procure.conf").symlink_to(trial.front / "procure.conf")
     for words, wanted in (("worker_connections 768;", WARNING), ("", WARNING), ("worker_connections 8192;", OK)):
         (trial.nginx / "nginx.conf").write_text(f"events {{\n    {words}\n}}\n", encoding="utf-8")
-        with answering(200, b"0.5.0 (ab12)\n", "/front-version") as address:
-            trial.says(wanted, "worker_connections .* is (768|512)" if wanted else "", "front", "--ways", address)
+        with Answering(200, b"0.5.0 (ab12)\n", "/front-version") as server:
+            trial.says(wanted, "worker_connections .* is (768|512)" if wanted else "", "front", "--ways", server.address)
 
 
 def test_copy(trial):
@@ -303,19 +303,23 @@ def test_copy(trial):
     assert copy.read_bytes() == before and not list(trial.copies.glob("check-*"))
 
 
-def answering(status, body, path="/notices?after=" + "z" * 32):
-    class Answering(Handler):
-        def do_GET(self):
-            self.tell(status if self.path == path else 404, body)
-    return answered_by(Answering)
+class Answering(StandIn):
+    """Answers at one path."""
+
+    def __init__(self, status, body, path=NO_NOTICES):
+        self.told, self.path = (status, body, {}), path
+        super().__init__()
+
+    def answer(self, request):
+        return self.told if request.path == self.path else (404, b"", {})
 
 
 def test_answer(trial):
     """Silence, another server's answer and a refusal are critical, and an office's answer is not."""
     for status, body, wanted in ((200, b'{"next":null,"notices":[]}', OK), (200, b"<html>", CRITICAL), (503, b'{"name":"Unavailable","refusal":32}', CRITICAL)):
-        with answering(status, body) as address:
-            trial.says(wanted, "", "answer", "--address", address)
-    trial.says(CRITICAL, "isn't answered", "answer", "--address", address)
+        with Answering(status, body) as server:
+            trial.says(wanted, "", "answer", "--address", server.address)
+    trial.says(CRITICAL, "isn't answered", "answer", "--address", server.address)
 
 
 def test_jump(trial):

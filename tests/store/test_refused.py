@@ -13,9 +13,9 @@ from concurrent.futures import ThreadPoolExecutor
 
 import pytest
 
-from office_kit.common import CONFIG, ROOT, parts_of
+from office_kit.common import CONFIG, ROOT, made_shim, parts_of
 from office_kit.gate.transcripts import request_of
-from office_kit.store.refusing import counted, plays, refusing
+from office_kit.store.refusing import counted, plays
 
 pytestmark = [pytest.mark.long, pytest.mark.needs("cc")]
 # The crates whose tests try a step a second time if the first try finds no memory, and the most refusals in each test, spread evenly over its allocations.
@@ -34,7 +34,7 @@ UNAVAILABLE = (b"HTTP/1.1 503 Service Unavailable\r\nContent-Type: application/j
 
 @pytest.fixture(scope="module")
 def shim(tmp_path_factory):
-    return refusing(str(tmp_path_factory.mktemp("shim")))
+    return made_shim("store/refusing.c", str(tmp_path_factory.mktemp("shim")))
 
 
 def run_desk(program, requests, **env):
