@@ -283,7 +283,7 @@ def moved_and_cancelled(scene: Scene) -> None:
     desk.is_off("Cancel the notice")
     desk.picture("cancel")
     desk.confirm("Cancel the notice", "All open lots of notice N2 are cancelled.")
-    desk.says("There is nothing to do.")
+    desk.says("There is nothing to do now.")
     desk.go("letter/N2/L1")
     page_checks.sheets(scene, desk.page, "letter/N2/L1")
 
