@@ -84,11 +84,11 @@ function sentence({ code, lot = "", count = 0, contract: number = "", until, sin
   return [told, told.includes(shown) ? away : []];
 }
 
-/** A task or a date as an entry of a list, which leads to its place. */
-function entryOf(name, task) {
+/** A task or a date as an entry of a list, which leads to its place. A task without a place is a warning. */
+function entryOf(name, task, isTask) {
   const [told, away] = sentence(task);
   const isLinked = task.lot || task.code === "open";
-  return element("li", task.code === "expired" || task.code === "binds" ? { class: "wrong" } : {}, isLinked ? link(told, placeOfTask(name, task)) : told, away);
+  return element("li", isTask && !isLinked ? { class: "wrong" } : {}, isLinked ? link(told, placeOfTask(name, task)) : told, away);
 }
 
 /** The next tasks of this clerk, as sentences, and those of others; and the dates to wait for. */
@@ -97,7 +97,7 @@ export function tasks(name, stage) {
   const all = tasksOf(stage, now);
   const own = all.filter(isOwn);
   const others = othersText(all);
-  const made = own.filter((task) => !isFact(task, now)).map((task) => entryOf(name, task));
+  const made = own.filter((task) => !isFact(task, now)).map((task) => entryOf(name, task, true));
   return { todo: [...made, ...(others ? [element("li", { class: "quiet" }, others)] : [])],
-    dates: own.filter((task) => isFact(task, now)).map((task) => entryOf(name, task)) };
+    dates: own.filter((task) => isFact(task, now)).map((task) => entryOf(name, task, false)) };
 }
