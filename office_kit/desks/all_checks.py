@@ -161,8 +161,9 @@ def beside(scene: Scene) -> None:
     letters = [public.saved(scene.path(f"letter-N1-L1-{number}.html")).decode() for number in (1, 2)]
     public.go(scene.front.address("#list"))
     public.run("[...document.querySelectorAll('main button')].find((at) => at.textContent === 'Save this line as a table').click()")
-    head, row = list(csv.reader(public.saved(scene.path("procurements.csv")).decode().splitlines()))
-    assert (head[:3], row[:3], row[-3:]) == (["Notice", "Procurement", "State"], ["N1", "Road repair", "All contracts ended"], ["1900", "EUR", "Beta Ltd, Alpha & Söhne"])
+    head, row = list(csv.reader(public.saved(scene.path("procurements.csv")).decode("utf-8-sig").splitlines()))
+    told = ["N1", "Road repair", "All contracts ended", "1900", "EUR", "Beta Ltd, Alpha & Söhne"]
+    assert (head[:3], row[:3] + row[-3:]) == (["Notice", "Procurement", "State"], told)
     for letter, texts in zip(letters, (("Beta Ltd", "Thank &lt;you&gt;."), ("Alpha &amp; Söhne", "Its price wasn't the lowest."))):
         assert [text for text in texts if text not in letter] == [] and not re.search("<(textarea|button|script|input)", letter), letter
         public.ask("Page.navigate", url=f"data:text/html;base64,{base64.b64encode(letter.encode()).decode()}")

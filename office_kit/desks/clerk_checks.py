@@ -280,7 +280,7 @@ def moved_and_cancelled(scene: Scene) -> None:
     scene.client.present("T1", "N2", "L1", tender((3, 150), (10, 12)), "G7", 50)
     desk.go("letter/N2/L1", says="There are no letters to print")
     desk.go("notice/N2")
-    desk.press("Cancel the notice")
+    desk.press("Cancel the notice", says="Don't name firms or persons: everybody can read it.")
     desk.fill({"Reason": "No need."})
     desk.press("Cancel the notice …", says="To confirm, type: cancel")
     desk.is_off("Cancel the notice")

@@ -75,7 +75,7 @@ def answers(scene: Scene) -> None:
     desk.fill({"Quantity": "400"}, says="Item L2/I1: its lot's estimate is less than 20 a unit.")
     review(desk)
     desk.press("Request, as it is sent", says=(
-        "N7", "Answers", "90", "The lowest price", "not possible", "70", "North", "South", "1,600", "300", "50", "none", "Paving, square metres",
+        "N7", "Answers", "90", "The lowest price", "not possible", "70", "North", "South", "1000 Roads", "1,600", "300", "50", "none", "Paving, square metres",
         "Kerbs, 10 m", "Signs", "400", "Without a standstill the losing firms", "The deadline is in 11 hours", "Item L2/I1"))
     lot = ["Title of the lot", "Budget line", "Estimate", "Tender security"]
     wanted = ["Notice number", "Title", "Deadline", "Validity of tenders, in days", "Standstill, in days", "Award criteria",
