@@ -16,6 +16,8 @@ let charts = 0;
 const FIRST = 25, AT_ONCE = 100;
 // The height of a picture of columns, the gap above them, and the most amounts beside them.
 const HEIGHT = 180, ABOVE = 8, AMOUNTS = 4;
+// A picture of columns has room for at least so many, so that a single one isn't as wide as the picture.
+const LEAST = 12;
 
 function patternsOf(chart, kinds) {
   const defined = kinds.filter((kind) => PATTERNS[kind]).map((kind) => {
@@ -76,7 +78,7 @@ export function columns(label, rows, heads) {
   const most = Math.max(1, ...rows.map(({ amount }) => amount));
   const tall = (amount) => ((HEIGHT - ABOVE) * amount) / most;
   const lines = rounds(0, most, AMOUNTS);
-  const width = 100 / rows.length;
+  const width = 100 / Math.max(rows.length, LEAST);
   const at = lines.map((amount) => drawn("line", { x1: "0", x2: "100%", y1: HEIGHT - tall(amount), y2: HEIGHT - tall(amount), class: "mark" }));
   const drawnRows = rows.map(({ amount }, place) => drawn("rect", { x: `${width * (place + 0.12)}%`, y: HEIGHT - tall(amount), width: `${width * 0.76}%`,
     height: tall(amount), class: "piece paid" }));
@@ -85,7 +87,7 @@ export function columns(label, rows, heads) {
     made.style.bottom = `${tall(amount)}px`;
     return made;
   }));
-  const marks = scale(rows.flatMap(({ mark }, place) => (mark ? [{ part: place / rows.length, text: mark }] : [])));
+  const marks = scale(rows.flatMap(({ mark }, place) => (mark ? [{ part: (width * place) / 100, text: mark }] : [])));
   return picture(label, element("div", { class: "columns" }, amounts, element("div", {}, drawing(HEIGHT, ...at, ...drawnRows), marks)),
     below(label, heads, rows.map(({ name, amount }) => [name, number(amount)]), { figures: [1] }));
 }

@@ -1,10 +1,15 @@
 """The checks of tests/desks/test_together.py: a procurement by the screens of the clerk, of three firms and of the public alone. Then a firm loses its key."""
+import base64
+import csv
+import re
 import time
 from collections.abc import Callable
+from pathlib import Path
 
 from office_kit.client import AHEAD, wait_until
 from office_kit.desks import clerk_desk, page_checks
 from office_kit.desks.clerk_checks import NUMBER, budget_part, publish_part
+from office_kit.desks.page_office import mirror_beside
 from office_kit.desks.scene import Scene
 from office_kit.desks.tender_page import Desk
 
@@ -138,6 +143,33 @@ def lost_key(scene: Scene) -> None:
     page_checks.is_quiet(other.page)
 
 
+def beside(scene: Scene) -> None:
+    """What isn't in the register: the portal and both desks show the documents of a notice; its letters and the portal's list are saved as files."""
+    content = Path(scene.put("documents/N1/plan.pdf", b"%PDF-1.4 a plan")).read_bytes()
+    mirror_beside(scene.front, "--documents", scene.path("documents"))
+    clerk, firm = clerk_desk.with_key(scene), Desk(scene)
+    clerk.go("notice/N1")
+    firm.at("offer/N1", "Road repair")
+    public = page_checks.page_of(scene, "#notice/N1")
+    for page in (clerk.page, firm.page, public):
+        page.wait(f"document.querySelector('main').innerText.includes('plan.pdf ({len(content)} bytes)')")
+        page.gives("fetch(document.querySelector('main a[href$=\"plan.pdf\"]')).then((answer) => answer.text())", content.decode())
+        page.keep_in(scene.front.folder)
+    clerk.go("letter/N1/L1")
+    clerk.page.run("Object.assign(document.querySelector('.sheet textarea'), { value: 'Thank <you>.' }).dispatchEvent(new Event('input'))")
+    clerk.press("Save 2 letters as files")
+    letters = [public.saved(scene.path(f"letter-N1-L1-{number}.html")).decode() for number in (1, 2)]
+    public.go(scene.front.address("#list"))
+    public.run("[...document.querySelectorAll('main button')].find((at) => at.textContent === 'Save this line as a table').click()")
+    head, row = list(csv.reader(public.saved(scene.path("procurements.csv")).decode("utf-8-sig").splitlines()))
+    told = ["N1", "Road repair", "All contracts ended", "1900", "EUR", "Beta Ltd, Alpha & Söhne"]
+    assert (head[:3], row[:3] + row[-3:]) == (["Notice", "Procurement", "State"], told)
+    for letter, texts in zip(letters, (("Beta Ltd", "Thank &lt;you&gt;."), ("Alpha &amp; Söhne", "Its price wasn't the lowest."))):
+        assert [text for text in texts if text not in letter] == [] and not re.search("<(textarea|button|script|input)", letter), letter
+        public.ask("Page.navigate", url=f"data:text/html;base64,{base64.b64encode(letter.encode()).decode()}")
+        public.wait("document.querySelector('h2')?.innerText.includes('Road repair') && document.documentElement.lang === 'en'")
+
+
 # How many links, buttons and fields of the view are where a press would reach them.
 REACHED = """[...document.querySelectorAll("main :is(a, button, summary, input)")].filter((at) => {
   const { x, y, width, height } = at.getBoundingClientRect();
@@ -163,4 +195,4 @@ def slow(scene: Scene) -> None:
         page_checks.is_quiet(page)
 
 
-CHECKS: list[Callable[[Scene], None]] = [life, lost_key, slow]
+CHECKS: list[Callable[[Scene], None]] = [life, lost_key, beside, slow]

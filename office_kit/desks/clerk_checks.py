@@ -27,6 +27,9 @@ NUMBER = "Number of the invoice or change"
 ACCEPTS_FILE, ACCEPTS_NOTICE = "The register would accept this file.", "The register would accept this notice."
 NOT_DONE = "This isn't done: the register's data shows nothing of it."
 NO_MATCH = "This isn't the clerk's key."
+# What the window of an award says: also how far the price is below the estimate and the next one.
+AWARDS = ("Award lot L1 of notice N1 to Beta Ltd", "The price is 1,060 EUR (66.3%) below the estimate.",
+          "It is 30 EUR (5.3%) below the next price, that of Alpha & Söhne.")
 
 
 def budget_part(desk: Desk) -> None:
@@ -37,7 +40,7 @@ def budget_part(desk: Desk) -> None:
     check(f"what was converted isn't shown: {rows}", all(word in rows for word in ("Zugang", "5.000,00", "5000", "Summe;;5.050,00;", "left out")))
     desk.page.gives(f"hands.converted({json.dumps(SHEET)})", BUDGET)
     desk.picture("budget-converted")
-    desk.drop(SHEET.replace("5.000,00", "5.000,50"), "budget.csv", says="it has 1 fault.")
+    desk.drop(SHEET.replace("5.000,00", "5.000,50"), "budget.csv", says=("it has 1 fault.", "has cents or a fraction"))
     check(f"the fault isn't named by its line: {desk.told()}", "\n2\t" in desk.told() or "2\tThe amount" in desk.told())
     desk.drop(budget("1000,add,1.5,Roads", "2000,cut,5,Parks"), "budget.csv", says="has cents or a fraction", picture="budget-wrong")
     desk.drop(BUDGET, "B1.csv", says=ACCEPTS_FILE, picture="budget-right")
@@ -134,7 +137,7 @@ def award_part(desk: Desk) -> None:
     """Both tenders are examined; the best doesn't sign, and is passed over; the next one signs with the performance security. Nobody wins the other lot, for
     which nobody gave a security. The notice has no standstill."""
     examination_part(desk)
-    desk.order("Award the lot", "Lot L1 goes to Beta Ltd for 540 EUR (receipt 2).", "Lot L1", asks="Award lot L1 of notice N1 to Beta Ltd",
+    desk.order("Award the lot", "Lot L1 goes to Beta Ltd for 540 EUR (receipt 2).", "Lot L1", asks=AWARDS,
                says="No tender can win. The lot ends without a contract, and its reserved 300 EUR is free again.")
     desk.press("End the lot without a contract …", "Lot L2", says="End lot L2 of notice N1 without a contract")
     desk.hides("securities", picture="nobody")
@@ -277,13 +280,13 @@ def moved_and_cancelled(scene: Scene) -> None:
     scene.client.present("T1", "N2", "L1", tender((3, 150), (10, 12)), "G7", 50)
     desk.go("letter/N2/L1", says="There are no letters to print")
     desk.go("notice/N2")
-    desk.press("Cancel the notice")
+    desk.press("Cancel the notice", says="Don't name firms or persons: everybody can read it.")
     desk.fill({"Reason": "No need."})
     desk.press("Cancel the notice …", says="To confirm, type: cancel")
     desk.is_off("Cancel the notice")
     desk.picture("cancel")
     desk.confirm("Cancel the notice", "All open lots of notice N2 are cancelled.")
-    desk.says("There is nothing to do.")
+    desk.says("There is nothing to do now.")
     desk.go("letter/N2/L1")
     page_checks.sheets(scene, desk.page, "letter/N2/L1")
 

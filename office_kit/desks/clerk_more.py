@@ -2,6 +2,7 @@
 import contextlib
 import json
 import os
+import re
 import time
 from typing import Any
 
@@ -75,7 +76,7 @@ def answers(scene: Scene) -> None:
     desk.fill({"Quantity": "400"}, says="Item L2/I1: its lot's estimate is less than 20 a unit.")
     review(desk)
     desk.press("Request, as it is sent", says=(
-        "N7", "Answers", "90", "The lowest price", "not possible", "70", "North", "South", "1,600", "300", "50", "none", "Paving, square metres",
+        "N7", "Answers", "90", "The lowest price", "not possible", "70", "North", "South", "1000 Roads", "1,600", "300", "50", "none", "Paving, square metres",
         "Kerbs, 10 m", "Signs", "400", "Without a standstill the losing firms", "The deadline is in 11 hours", "Item L2/I1"))
     lot = ["Title of the lot", "Budget line", "Estimate", "Tender security"]
     wanted = ["Notice number", "Title", "Deadline", "Validity of tenders, in days", "Standstill, in days", "Award criteria",
@@ -163,14 +164,19 @@ def signed(desk: Desk) -> None:
     del compiled["contracts"]
     redraw(desk, record, terms, "ended on 15 January 2026")
     desk.hides("The contract was signed")
+    # If points decide, a letter to a loser has its points and the winner's.
+    told = desk.scene.front.ask("GET", "/notices/N1/evaluation").body.decode()
+    told = re.sub(r"\t[a-z-]+\t-\t-\t[a-z]+$", "\tresponsive\t30\t90500\tadmissible", told, flags=re.M)
+    redraw(desk, record, {**terms, "criteria": "points", "price_weight": 60}, "Of 100 points your tender has 90.5, and the winner's has 90.5.", evaluation=told)
     desk.page.answer_for({})
     desk.go("today")
     desk.go("letter/N1/L1")
 
 
-def redraw(desk: Desk, record: object, terms: object, *texts: str) -> None:
-    """Draws the letters for this record and these terms, which say these texts."""
-    desk.page.answer_for({"/notices/N1/terms": (200, json.dumps(terms).encode()), "/notices/N1/record": (200, json.dumps(record).encode())})
+def redraw(desk: Desk, record: object, terms: object, *texts: str, evaluation: str = "") -> None:
+    """Draws the letters for this record, these terms and this evaluation, which say these texts."""
+    answers = {"terms": json.dumps(terms), "record": json.dumps(record), **({"evaluation": evaluation} if evaluation else {})}
+    desk.page.answer_for({f"/notices/N1/{name}": (200, text.encode()) for name, text in answers.items()})
     desk.go("today")
     desk.go("letter/N1/L1", says=texts)
 

@@ -24,9 +24,9 @@ def mirror(office: str, folder: str, *options: str, **environment: str) -> None:
     assert ran.returncode == 0, ran.stderr
 
 
-def mirror_beside(front: Front) -> None:
+def mirror_beside(front: Front, *options: str) -> None:
     """The mirror beside an office, as its timer runs it."""
-    mirror(f"http://{HOST}:{front.office}", f"{front.folder}/mirror/data", "--base", front.address().rstrip("/"))
+    mirror(f"http://{HOST}:{front.office}", f"{front.folder}/mirror/data", "--base", front.address().rstrip("/"), *options)
 
 
 class Procurements(Life):

@@ -374,7 +374,8 @@ def pictures(node):
         compiled = {"tender": {"status": status, "lots": [{"id": "L1"}], "tenderPeriod": {"startDate": "2026-02-01", "endDate": "2026-03-01"}},
                     "awards": [{"id": "1", "date": awarded, "relatedLots": ["L1"]}] if awarded else [],
                     "contracts": [{"id": "1", "awardID": "1", "dateSigned": signed}] if signed else []}
-        releases = [{"tag": ["contractTermination" if signed else "tenderCancellation"], "date": ended, "contracts": [{"id": "1"}]}] if ended else []
+        tags = ["contractTermination"] if signed else ["tenderCancellation", "awardCancellation"]
+        releases = [{"tag": tags, "date": ended, "contracts": [{"id": "1"}], "awards": [{"id": "1"}]}] if ended else []
         notice = {"compiled": compiled, "releases": releases, "terms": {"opened": opened, "standstill_days": 10, "validity_days": 90}}
         answers(node, script, (notice, DEADLINE + now * DAY, steps))
     for days, *wanted in DATA["axes"]:

@@ -45,6 +45,7 @@ export default {
   "award.next.below": "Er liegt {amount} unter dem nächsten Preis, dem von {name}.",
   "award.next.above": "Er liegt {amount} über dem niedrigsten anderen Preis, dem von {name}.",
   "award.next.none": "Kein anderes Angebot kann gewinnen.",
+  "letter.points": "Von 100 Punkten hat Ihr Angebot {own} und das des Gewinners {best}.",
   "letters.noremedy": "Diese Schreiben sagen nicht, wie man Einspruch erhebt: city.json hat keinen Text darüber. Fragen Sie den Betreiber.",
   "letters.otherremedy": "Der Teil über den Einspruch steht in einer anderen Sprache: city.json hat keinen Text darüber in dieser. Fragen Sie den Betreiber.",
 };

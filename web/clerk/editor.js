@@ -144,7 +144,7 @@ function warningTexts(draft, now) {
     say(`warning.${code}`, { value: code === "near" ? span(secondsTo(draft.deadline)) : value, amount, least, count: amount }));
 }
 
-function publish(editor, faults) {
+async function publish(editor, faults) {
   const { draft } = editor;
   editor.isChecked = true;
   drawSummary(editor);
@@ -152,6 +152,7 @@ function publish(editor, faults) {
     focusOn(editor, faults[0]);
     return null;
   }
+  editor.titles = await titlesOf(linesOf(draft));
   return sendThen(publication(editor), () => {
     draftSaved();
     keepDraft(null);
@@ -159,12 +160,17 @@ function publish(editor, faults) {
   });
 }
 
+/** The budget lines of a draft. */
+function linesOf({ lots }) {
+  return [...new Set(lots.map(({ line }) => line))];
+}
+
 /** The order that publishes a draft. Its window shows all answers, and all warnings again. */
 function publication(editor) {
   const { draft } = editor;
   const sum = draft.lots.reduce((all, { estimate }) => all + Number(estimate), 0);
   const items = draft.lots.reduce((all, lot) => all + lot.items.length, 0);
-  const lines = [...new Set(draft.lots.map(({ line }) => line))].join(", ");
+  const lines = linesOf(draft).map((line) => `${line} ${editor.titles.get(line) ?? ""}`.trim()).join("; ");
   return { kind: "notice", values: { notice: draft.name }, path: `/notices/${draft.name}`, body: bodyBytes(draft), isFinal: true,
     says: [[say("editor.does.deadline"), " ", moment(momentText(draft.deadline))], say("editor.does.money", { sum, lines }),
       say("editor.does.lots", { lots: draft.lots.length, items, count: draft.lots.length }), say("editor.does.stays")],

@@ -45,6 +45,7 @@ export default {
   "award.next.below": "It is {amount} below the next price, that of {name}.",
   "award.next.above": "It is {amount} above the lowest other price, that of {name}.",
   "award.next.none": "No other tender can win.",
+  "letter.points": "Of 100 points your tender has {own}, and the winner's has {best}.",
   "letters.noremedy": "These letters don't say how to object, because city.json has no text about it. Ask the operator.",
   "letters.otherremedy": "The part about objecting is in another language, because city.json has no text about it in this one. Ask the operator.",
 };

@@ -182,7 +182,7 @@ export default {
   "order.request": "Request, as it is sent",
   "order.digest": "SHA-256 of the content:",
   "order.answer": "Answer, as it came",
-  "order.at": "At",
+  "order.at": "On",
   "order.more": "… and {count} more characters",
   "order.notext": "(no text)",
   "order.sending": "Sent. Waiting for the register's answer …",

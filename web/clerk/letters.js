@@ -2,9 +2,9 @@
 // tenderer why it didn't win, or that the lot ended without a winner or was cancelled.
 import { cityFile, letterhead, remedyOf, wordsOf } from "../common/city.js";
 import { element, given, title } from "../common/draw.js";
-import { outcomeOf } from "../common/findings.js";
+import { outcomeOf, pointsOf } from "../common/findings.js";
 import { button, field, note, printButton, save, sheet, signs, steps } from "../common/forms.js";
-import { day, money, when } from "../common/money.js";
+import { day, money, number, when } from "../common/money.js";
 import { officeNow, registerText, securities } from "../common/office.js";
 import { language, say, sayParts } from "../common/texts.js";
 import { backTo } from "./printed.js";
@@ -39,7 +39,7 @@ function pageOf(made, head) {
   copy.querySelectorAll(".noprint").forEach((part) => part.remove());
   const page = element("html", { lang: language() }, element("head", {}, element("meta", { charset: "utf-8" }), element("title", {}, head),
     element("style", {}, "body { font: 11pt/1.5 sans-serif; max-width: 42rem; margin: 2rem auto; } .below, .line { display: block; }",
-      " .signs { margin-top: 4rem; }")),
+      " .signs { margin-top: 4rem; } .signs > * { border-top: 1px solid; max-width: 22rem; padding-top: 0.25rem; }")),
   element("body", {}, copy));
   return `<!DOCTYPE html>\n${page.outerHTML}\n`;
 }
@@ -70,10 +70,19 @@ function won({ terms, currency }, { active, standstillUntil, state, contract }, 
 }
 
 /** The sentences for the others. */
-function lost({ currency, stage }, { active, standstillUntil, shown, contract }, one) {
+function lost(notice, lot, one) {
+  const { active, standstillUntil, shown, contract } = lot;
+  const { currency, stage } = notice;
   const winner = sayParts("letter.winner", { name: given(active.suppliers[0].name), price: money(active.value.amount, currency), moment: day(active.date) });
   const why = say(`see.why.${outcomeOf(one, shown, stage.byPoints)[1]}`);
-  return [say("letter.thanks", { receipt: String(one.receipt), why }), winner, ownPrice(one, currency), standstill(active, standstillUntil, contract)];
+  return [say("letter.thanks", { receipt: String(one.receipt), why }), winner, ownPrice(one, currency), stage.byPoints ? points(lot, one) : "",
+    standstill(active, standstillUntil, contract)];
+}
+
+/** The points of a tender beside those of the winner's. */
+function points(lot, one) {
+  const [own, best] = [one, lot.tenders.find((other) => isWinner(lot, other))].map((tender) => pointsOf(lot.shown?.tenders.get(tender?.receipt) ?? { points: null }));
+  return own && best ? say("letter.points", { own: number(own.sum), best: number(best.sum) }) : "";
 }
 
 function ownPrice(one, currency) {

@@ -5,7 +5,7 @@ import { countdown, moment, span, when } from "../common/money.js";
 import { evaluationText, officeNow, record, terms } from "../common/office.js";
 import { say, sayParts } from "../common/texts.js";
 import { caller, may } from "./session.js";
-import { rolesOf, stageOf, tasksOf } from "./stage.js";
+import { isDate, rolesOf, stageOf, tasksOf } from "./stage.js";
 import { DAY, momentText } from "./values.js";
 
 // The results of queries for an opened notice are used for a minute, unless the notice has a new release or
@@ -54,8 +54,9 @@ const CLOSE = 14 * DAY;
 // Tasks whose moment is a deadline.
 const DEADLINES = ["wait", "open"];
 
+/** Whether a task is only a date, which is shown after the tasks. */
 function isFact({ code, until }, now) {
-  return code === "binds" && until - now >= CLOSE;
+  return isDate(code) && (code !== "binds" || until - now >= CLOSE);
 }
 
 /** Whether a task is this clerk's own, or only a date. */
@@ -83,21 +84,20 @@ function sentence({ code, lot = "", count = 0, contract: number = "", until, sin
   return [told, told.includes(shown) ? away : []];
 }
 
-/** The next tasks of this clerk, as sentences that lead to their places, and the tasks of others. */
+/** A task or a date as an entry of a list, which leads to its place. A task without a place is a warning. */
+function entryOf(name, task, isTask) {
+  const [told, away] = sentence(task);
+  const isLinked = task.lot || task.code === "open";
+  return element("li", isTask && !isLinked ? { class: "wrong" } : {}, isLinked ? link(told, placeOfTask(name, task)) : told, away);
+}
+
+/** The next tasks of this clerk, as sentences, and those of others; and the dates to wait for. */
 export function tasks(name, stage) {
   const now = officeNow();
   const all = tasksOf(stage, now);
+  const own = all.filter(isOwn);
   const others = othersText(all);
-  return [...all.filter((task) => isOwn(task) && !isFact(task, now)).map((task) => {
-    const [told, away] = sentence(task);
-    const isLinked = task.lot || task.code === "open";
-    return element("li", task.code === "expired" || task.code === "binds" ? { class: "wrong" } : {}, isLinked ? link(told, placeOfTask(name, task)) : told, away);
-  }), ...(others ? [element("li", { class: "quiet" }, others)] : [])];
-}
-
-/** The end of the tenders' validity, as a sentence, while it is no task; else null. */
-export function validity(stage) {
-  const now = officeNow();
-  const found = tasksOf(stage, now).find((task) => isFact(task, now));
-  return found ? element("p", { class: "quiet" }, sentence(found)) : null;
+  const made = own.filter((task) => !isFact(task, now)).map((task) => entryOf(name, task, true));
+  return { todo: [...made, ...(others ? [element("li", { class: "quiet" }, others)] : [])],
+    dates: own.filter((task) => isFact(task, now)).map((task) => entryOf(name, task, false)) };
 }

@@ -8,7 +8,7 @@ import { awardPart, letters } from "./award.js";
 import { contractPart } from "./contracts.js";
 import { cancelPart, movePart, openingPart, registerPart } from "./deadline.js";
 import { examinations } from "./examine.js";
-import { tasks, validity } from "./load.js";
+import { tasks } from "./load.js";
 import { may } from "./session.js";
 import { STEPS, stepOf } from "./stage.js";
 import { loadNotice } from "./whole.js";
@@ -43,10 +43,11 @@ function path(stage) {
   return at === null ? null : element("ol", { class: "path", "aria-label": say("step.title") }, steps);
 }
 
-/** The next tasks, and those of others. */
+/** The next tasks, and those of others; then the dates to wait for. */
 function doing(name, stage) {
-  const list = tasks(name, stage);
-  return [list.length === 0 ? element("p", { class: "note" }, say("task.none")) : note("look", say("today.next"), element("ul", {}, list)), validity(stage)];
+  const { todo, dates } = tasks(name, stage);
+  return [todo.length === 0 ? element("p", { class: "note" }, say("task.none")) : note("look", say("today.next"), element("ul", {}, todo)),
+    dates.length > 0 ? element("ul", { class: "quiet", "aria-label": say("task.dates") }, dates) : null];
 }
 
 function parts(notice, again) {

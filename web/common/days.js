@@ -6,12 +6,14 @@ const DAY = 86_400_000;
 /** The steps, in the order in which they are shown. */
 export const STEPS = ["tenders", "opening", "standstill", "contract", "validity", "stopped"];
 
-/** The steps of one lot: the standstill of each award, and the contract. */
+/** The steps of one lot: the standstill of each award, which ends with a cancelled award, and the contract. */
 function stepsOfLot({ compiled, releases, terms }, lot) {
   return awardsOf(compiled, lot).flatMap((award) => {
     const from = Date.parse(award.date);
     const contract = contractOf(compiled, award);
-    const standstill = terms.standstill_days > 0 ? [{ step: "standstill", lot: lot.id, from, to: from + terms.standstill_days * DAY }] : [];
+    const gone = releases.find(({ tag, awards }) => tag.includes("awardCancellation") && awards?.some(({ id }) => id === award.id));
+    const to = Math.min(from + terms.standstill_days * DAY, gone ? Date.parse(gone.date) : Infinity);
+    const standstill = terms.standstill_days > 0 ? [{ step: "standstill", lot: lot.id, from, to }] : [];
     const ended = contract && endOf(releases, contract);
     return contract ? [...standstill, { step: "contract", lot: lot.id, from: Date.parse(contract.dateSigned), to: ended ? Date.parse(ended) : null }] : standstill;
   });

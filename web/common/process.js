@@ -1,5 +1,6 @@
 // A procurement, drawn from its record, releases, terms, minutes and evaluation.
 import { against, contractPart } from "./contract.js";
+import { documentPart } from "./documents.js";
 import { badge, below, element, facts, given, link, listed, placeOf, section, title } from "./draw.js";
 import { addedTo, awardsOf, contractOf, kindOfSigned, paidOf, passedOver, stateOf, stateOfLot } from "./findings.js";
 import { note, table } from "./forms.js";
@@ -99,13 +100,6 @@ function factsOf({ name, compiled: { tender, buyer }, isPreview }, state) {
     [say("see.published"), day(tender.tenderPeriod.startDate)], [say("see.deadline"), deadline], [say("see.tenderers"), tenderers]]);
 }
 
-/** The documents beside a notice, which the front has and the office doesn't know. */
-function documentPart({ documents }) {
-  const one = ({ notice, file, length, sha256 }) => element("li", {}, link(file, `/documents/${notice}/${file}`), " ", say("see.document", { bytes: number(length) }),
-    below("SHA-256 ", element("span", { class: "code" }, sha256)));
-  return documents?.length > 0 ? section(say("see.documents"), element("ul", {}, documents.map(one))) : null;
-}
-
 /** Links to the page of a notice that needs no script, and to the office's own answers. */
 function sources({ name, tenders, linked, documents }) {
   const paths = ["record", "releases", "terms", ...(tenders ? ["minutes", "evaluation"] : [])].map((path) => `/notices/${name}/${path}`);
@@ -126,7 +120,7 @@ export function drawProcess(notice) {
     notice.pictures?.daysOf(notice),
     element("div", { class: "process" },
       element("div", {}, moneyTable(notice), section(say("see.lots.title"), tender.lots.map((lot) => lotPart(told, lot, tender.lots.length > FEW)))),
-      element("div", {}, section(say("see.terms"), termList(notice.terms, tender.value.currency)), documentPart(notice), section(say("see.happened"), timeline(all, compiled)))),
+      element("div", {}, section(say("see.terms"), termList(notice.terms, tender.value.currency)), documentPart(notice.documents), section(say("see.happened"), timeline(all, compiled)))),
     notice.isPreview ? null : sources(notice)].flat(Infinity).filter(Boolean);
   for (const text of drawn.flatMap((part) => [...part.querySelectorAll("bdi")])) {
     text.lang = compiled.language;

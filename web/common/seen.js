@@ -1,5 +1,5 @@
 // All that there is to see of a procurement, asked of the office.
-import { rows } from "./data.js";
+import { documentsOf } from "./documents.js";
 import { evaluationOf, tendersOf } from "./findings.js";
 import { evaluationText, minutesText, record, releases, terms } from "./office.js";
 import { titlesOf } from "./titles.js";
@@ -11,8 +11,7 @@ export async function seenOf(name, clerk = null) {
   const asked = terms(name);
   const titled = titlesOf(asked.then(({ lots }) => lots.map(({ line }) => line), () => []));
   const [compiled, all, own, minutes, evaluation, titles, pictures, documents] = await Promise.all([record(name), releases(name), asked, minutesText(name),
-    evaluationText(name, clerk), titled, import("./pictures.js").catch(() => null), rows("documents").catch(() => null)]);
+    evaluationText(name, clerk), titled, import("./pictures.js").catch(() => null), documentsOf(name)]);
   return { name, compiled, pictures, releases: all, terms: own, titles, tenders: minutes === null ? null : tendersOf(minutes),
-    documents: documents?.filter((row) => row.notice === name && row.until === "") ?? null,
-    evaluation: evaluation === null ? null : evaluationOf(evaluation, clerk !== null) };
+    documents, evaluation: evaluation === null ? null : evaluationOf(evaluation, clerk !== null) };
 }

@@ -1,5 +1,6 @@
 // A new tender: a notice's terms and lots, and the prices of a lot, typed or from a file.
 import { isId } from "../common/csv.js";
+import { documentPart, documentsOf } from "../common/documents.js";
 import { badge, element, facts, given, link, placeOf, section, title } from "../common/draw.js";
 import { DIGITS, ID, button, faultNote, field, note, save, steps } from "../common/forms.js";
 import { clock, money, moment, number, typed } from "../common/money.js";
@@ -51,11 +52,11 @@ function lotCard(one, lot) {
     isTaking(one) ? link(say("offer.begin", { lot: lot.id }), placeOf("offer", one.notice, lot.id), "button") : null);
 }
 
-/** The view of a notice: its terms and lots. */
+/** The view of a notice: its terms, documents and lots. */
 async function drawNotice(notice) {
-  const one = await noticeOf(notice);
+  const [one, documents] = await Promise.all([noticeOf(notice), documentsOf(notice)]);
   return { title: one.title, content: [title(given(one.title)), element("p", {}, isTaking(one) ? badge("open", say("offer.open")) : badge("stopped", closedText(one))),
-    termsOf(one), element("p", {}, link(say("offer.public"), `/#notice/${notice}`)), element("h2", {}, say("offer.lots")),
+    termsOf(one), documentPart(documents), element("p", {}, link(say("offer.public"), `/#notice/${notice}`)), element("h2", {}, say("offer.lots")),
     element("ul", { class: "lines" }, one.lots.map((lot) => lotCard(one, lot)))] };
 }
 
@@ -156,7 +157,7 @@ async function drawLot(notice, name, { redraw }) {
   const secured = changes === null ? securityFields(offer) : { faults: () => [], made: null };
   update();
   const head = say("offer.for", { lot: name, notice });
-  return { title: head, content: [title(head), element("p", {}, given(one.title), " – ", given(lot.title)), late.place, termsOf(one, late.tell),
+  return { title: head, content: [title(head), element("p", {}, link(given(one.title), placeOf("offer", notice)), " – ", given(lot.title)), late.place, termsOf(one, late.tell),
     changes === null ? null : changeNote(offer),
     element("h2", {}, say("offer.prices")), sources(offer, redraw), prices.made, secured.made, place, steps(go, keep)] };
 }
