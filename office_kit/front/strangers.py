@@ -7,7 +7,8 @@ KIND is one of
 - eager: strangers and a firm who never pause;
 - neighbour: somebody with the address of all tenderers, and with the clerk's, sends wrong keys under each of their names;
 - rival: a firm sends 400 tenders of 32 KiB for other lots, at once, from ten addresses;
-- citizens: two hundred ask for four budget lines each, at once.
+- citizens: two hundred ask for four budget lines each, at once;
+- health: eleven monitors ask for the head of /health, at once.
 
 They connect at once, and ask from BEGIN on, by TLS. At the end the script prints, as JSON, how many answers of each status each kind got.
 """
@@ -154,8 +155,11 @@ class Strangers:
     def citizens(self) -> Iterator[Coroutine[None, None, None]]:
         yield from (self.once("citizen", f"127.0.6.{number % 200 + 1}", request("GET", f"/lines/{100_000 + number % self.lines}")) for number in range(800))
 
+    def health(self) -> Iterator[Coroutine[None, None, None]]:
+        yield from (self.once("monitor", f"127.0.6.{number}", HEALTH[0]) for number in range(1, 12))
+
     async def run(self, kind: str, end: float) -> None:
-        kinds = {"crowd": self.crowd, "eager": self.eager, "neighbour": self.neighbour, "rival": self.rival, "citizens": self.citizens}
+        kinds = {"crowd": self.crowd, "eager": self.eager, "neighbour": self.neighbour, "rival": self.rival, "citizens": self.citizens, "health": self.health}
         with contextlib.suppress(TimeoutError):
             async with asyncio.timeout(end - time.time()), asyncio.TaskGroup() as group:
                 for task in kinds[kind]():

@@ -8,8 +8,8 @@ first to the office and the front, then to tenderers, then to strangers, as if e
 A tender is in time until the second of its deadline ends, and it may wait for one ledger. So that must take clearly less than a second (INSTALL.md says
 what to do in a larger office). Where 100,000 rows take longer, on a slower machine, the office has fewer.
 
-Each tender must be `sealed`, with status 200, within two seconds, or more on a slower machine. Beside a neighbour, a rival and citizens each flush of the disk
-takes five milliseconds. With a careless front some tender to the office of many lines must be late or wait longer, else the test has shown nothing. (The other
+Each tender must be `sealed`, with status 200, within two seconds, or more on a slower machine. Beside all but a crowd each flush of the disk takes
+five milliseconds. With a careless front some tender to the office of many lines must be late or wait longer, else the test has shown nothing. (The other
 office remembers its few sums.)
 """
 import collections
@@ -51,7 +51,8 @@ STRANGERS, TENDERERS_TURN, SERVERS = 1, 2, 3
 # Beside whom tenders come: their kinds, how many seconds before the deadline they begin, and the answers that they must have at least. With fewer they tried
 # nothing. (A citizen or the rival has one answer a request.)
 BESIDE = {"crowd": (["crowd", "eager"], 4, {"": 1_000}), "neighbour": (["neighbour"], 4, {"neighbour 401": 100}),
-          "rival": (["rival"], 0.6, {"rival 200": 20, "rival 429": 300}), "citizens": (["citizens"], 0.6, {"citizen 200": 800})}
+          "rival": (["rival"], 0.6, {"rival 200": 20, "rival 429": 300}), "citizens": (["citizens"], 0.6, {"citizen 200": 800}),
+          "health": (["health"], 0.6, {"monitor 200": 11})}
 CARELESS = tomllib.loads(Path(__file__).with_suffix(".toml").read_text(encoding="utf-8"))["careless"]
 FIRM = json.dumps({"name": "Late", "address": "1 Row", "key": "0" * 64}).encode()
 

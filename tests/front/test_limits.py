@@ -207,7 +207,7 @@ def the_interface(front, office):
 
 def the_health(front, office):
     """/health asks the office each time, for an empty page of its notices, without a key. It can't be asked without end, and monitors are still answered
-    then."""
+    then. (Here the rate is smaller.)"""
     for _ in range(4):
         answer = front.ask("GET", "/health", caller=caller("T1", "wrong"))
         assert answer.status == 200 and answer.body.startswith(b"{")
@@ -216,7 +216,7 @@ def the_health(front, office):
     with contextlib.closing(front.connection(OUTSIDE)) as connection:
         statuses = [exchange(connection, "GET", "/health").status for _ in range(200)]
     # (Without the limit a few find the place of the way still taken.)
-    assert statuses.count(429) > 50
+    assert statuses.count(429) > 150
     assert [front.ask("GET", "/health").status for _ in range(5)] == [200] * 5
 
 
@@ -359,9 +359,9 @@ def ways_are_full(front, office):
 # ---- How often clients may ask.
 
 def too_often(front, office):
-    """A client that asks too often learns how long to wait, and then gets its answer."""
+    """A client that asks too often learns how long to wait, and then gets its answer. (Here the burst is smaller, and the rate.)"""
     with contextlib.closing(front.connection()) as connection:
-        for _ in range(3000):
+        for _ in range(300):
             answer = exchange(connection, "GET", "/lines/1000")
             if answer.status == 429:
                 break
@@ -397,23 +397,24 @@ def one_caller(front, office):
 
 
 def invented_names(front, office):
-    """A client that comes under a new name each time is limited by its address, also without keys. (Here the burst is smaller, and the rate.)"""
+    """A client that comes under a new name each time is limited by its address, also without keys. (Here the burst is smaller, and one more is free each
+    minute.)"""
     begun, source = time.monotonic(), "127.0.2.1"
     statuses = statuses_of(front, [caller(f"X{number}", "") for number in range(100)], source)
-    assert 40 <= len(office.came) == statuses.count(200) <= 42 + 2 * (time.monotonic() - begun)
+    assert 40 <= len(office.came) == statuses.count(200) <= 42 + (time.monotonic() - begun) / 60
     office.came.clear()
     begun = time.monotonic()
     statuses = statuses_of(front, [caller(f"X{number}", "wrong" * (1 + 100 * (number % 2))) for number in range(200)])
-    assert 60 <= len(office.came) <= 62 + 5 * (time.monotonic() - begun)
+    assert 60 <= len(office.came) <= 62 + (time.monotonic() - begun) / 60
     assert Counter(statuses) == {401: len(office.came), 429: 200 - len(office.came)}
 
 
 def one_network(front, office):
-    """All IPv6 addresses of a /64 have one limit. (Here a field of the head says the address, and the limit is smaller.)"""
+    """All IPv6 addresses of a /64 have one limit. (Here a field of the head says the address, the burst is smaller, and one more is free each minute.)"""
     begun, statuses = time.monotonic(), Counter()
     for number in range(4):
         statuses.update(statuses_of(front, [caller(f"X{number}-{it}", "wrong") for it in range(50)], Address=f"2001:db8::{number}:a"))
-    assert 60 <= statuses[401] <= 62 + 5 * (time.monotonic() - begun) and statuses[429] == 200 - statuses[401]
+    assert 60 <= statuses[401] <= 62 + (time.monotonic() - begun) / 60 and statuses[429] == 200 - statuses[401]
     for address in ("2001:db8:0:1::1", "198.51.100.1", "198.51.100.2"):
         assert set(statuses_of(front, [caller(f"X{it}", "wrong") for it in range(50)], Address=address)) == {401}, address
 
@@ -461,7 +462,8 @@ def test_routes():
         have = {(method, placed(path), who) for asked_by, _, _, _, method, path in rows for who in CALLERS.get(asked_by, (asked_by,))}
         return due <= have and len(rows) == len(due) and made(text) == {name: (folder / name).read_text() for name in files}
     assert is_right(table)
-    faults = [("POST /budget/", "POST /budgets/"), ("both         names", "clerk        names"), ("light      3", "light      4"), ("GET /ledger", "GET /led")]
+    faults = [("POST /budget/", "POST /budgets/"), ("both         names", "clerk        names"), ("light      3", "light      4"), ("GET /ledger", "GET /led"),
+              ("tenders    0", "names      0"), ("commands   0     budget", "clerk      0     budget")]
     for old, new in faults:
         assert table.count(old) and not is_right(table.replace(old, new)), old
 
