@@ -225,7 +225,7 @@ def delays() -> dict[Path, float]:
 
 
 def within(seconds: float) -> Callable[[], bool]:
-    """Tells from now on whether the seconds aren't over. Those don't count in which these threads waited for a processor because of the machine's other work."""
+    """A question that can be asked from now on: whether the seconds aren't over. Those in which these threads waited for a processor don't count."""
     begun, before = time.monotonic(), delays()
 
     def holds() -> bool:

@@ -74,8 +74,8 @@ class Handler(http.server.BaseHTTPRequestHandler):
 
 @contextlib.contextmanager
 def answered_by(handler: type[Handler]) -> Iterator[str]:
-    """The address of a server that answers so while this lasts. (Its thread ends with it, even if a test fails. Else it would poll the number of its closed
-    socket for ever: that takes a processor, and keeps each later socket of that number open for half a second after it is closed.)"""
+    """The address of a server that answers so while this lasts. (Its thread ends with it, even if a test fails. If it didn't, it would poll the number of its
+    closed socket. That takes a processor. Each later socket of that number would stay open for half a second after it is closed.)"""
     with http.server.ThreadingHTTPServer((HOST, 0), handler) as listener:
         threading.Thread(target=listener.serve_forever, daemon=True).start()
         try:
