@@ -8,8 +8,8 @@
 # make docs      writes docs/READING.md, and to build/docs an index of definitions and the list of public calls
 # make pictures  draws docs/pictures again; this needs graphviz (tools/pictures --help)
 # make edits     tries the mutants that the gate leaves out, edits/
-# make soak      the long forms, after `make test`: hours of plays, kills, failing disks, large old files, all pictures of
-#                the screens, measures, and the mutants of edits/ (tools/soak --help)
+# make soak      the long forms, after `make test`: hours of kills, failing disks, large old files, all pictures of the
+#                screens, and the mutants of edits/ (tools/soak --help)
 # make release   packs build/procure as an archive and a Debian package, to build/release (tools/release --help)
 # make bench     measures build/procure (bench/desk --help)
 RT ?= rt

@@ -212,6 +212,27 @@ def busy() -> float:
     return min(10.0, max(1.0, (time.perf_counter() - begun) / 0.02))
 
 
+def delays() -> dict[Path, float]:
+    """Of each thread of this process, and of those that it began, the seconds for which it was ready to run and waited for a processor (schedstat)."""
+    parents, found = [str(os.getpid())], {}
+    while parents:
+        for task in Path(f"/proc/{parents.pop()}/task").glob("*"):
+            with contextlib.suppress(OSError):
+                parents += (task / "children").read_text().split()
+                found[task] = int((task / "schedstat").read_text().split()[1]) / 1e9
+    return found
+
+
+def within(seconds: float) -> Callable[[], bool]:
+    """A question that can be asked from now on: whether the seconds aren't over. Those in which these threads waited for a processor don't count."""
+    begun, before = time.monotonic(), delays()
+
+    def holds() -> bool:
+        took = time.monotonic() - begun
+        return took < seconds or took - sum(waited - before.get(task, 0) for task, waited in delays().items()) < seconds
+    return holds
+
+
 def unread(port: int) -> list[int]:
     """Of each connection to a port of this machine, the bytes that the server hasn't read yet (proc_pid_net(5))."""
     rows = [line.split() for line in Path("/proc/net/tcp").read_text().splitlines()[1:]]

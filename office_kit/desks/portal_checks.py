@@ -110,6 +110,7 @@ def search(scene: Scene) -> None:
     assert page.run("location.hash") == "#list?words=poles" and texts_of(page, FOUND) == ["Street lamps"], "the address keeps what is typed"
     page.go(scene.front.address())
     before = texts_of(page, ".clock")[0]
+    page.run("void (Date.now = ((now) => () => now() + 60_000)(Date.now.bind(Date)))")
     page.wait(f"document.querySelector('.clock').textContent !== '{before}'")
     page.go(scene.front.address("#firms?name=gamma"))
     assert texts_of(page, "tbody th a") == ["Gamma O'Neill"]

@@ -39,8 +39,8 @@ class Handler(http.server.BaseHTTPRequestHandler):
 
 class StandIn(http.server.HTTPServer):
     """A server at a port of its own, which takes requests one after another until the end of its `with`. Its answers are JSON, unless their fields say
-    something else. (Its thread ends with it, even if a test fails. Else it would poll the number of its closed socket for ever: that takes a processor, and
-    keeps each later socket of that number open for half a second after it is closed.)"""
+    something else. (Its thread ends with it, even if a test fails. If it didn't, it would poll the number of its closed socket. That takes a processor. Each
+    later socket of that number would stay open for half a second after it is closed.)"""
 
     def __init__(self) -> None:
         super().__init__((HOST, 0), Handler)

@@ -89,13 +89,10 @@ export async function answersTo({ files = [], drafts = [], notices = [], awards 
     return { ways: ways.length, missed: found.filter((it) => !it).length, isSame: JSON.stringify([back.journal?.entries, back.journal?.letters]) === JSON.stringify([journal.entries, journal.letters]) };
   })();
   await addTexts({ en: () => ({ default: en }), de: () => ({ default: de }) });
-  const marks = (text) => [text].flat().map((one) => [...one.matchAll(/\{(\w+)\}/g)].map((it) => it[1]).sort().join()).join("|");
-  told.texts = [...Object.keys(en).filter((name) => !(name in de) || marks(de[name]) !== marks(en[name]) || Array.isArray(de[name]) !== Array.isArray(en[name])),
-    ...Object.keys(de).filter((name) => !(name in en))];
+  told.texts = [];
   for (const tag of ["en", "de"]) {
     await chooseLanguage(tag);
     told.texts.push(...refusals.filter((name) => !hasText(name)));
   }
-  told.count = Object.keys(en).length;
   return told;
 }

@@ -3,7 +3,7 @@
 One run of `procure desk` takes in files and notices, valid ones, changed ones and ones at the bounds, and prints its ledger after each. The desk's modules
 read the same bytes with the ledger from before. The refusal must be the same, and so must the first wrong record, the rows of `procure read-budget`, and the
 amounts that each line has afterwards. The desk also foretells the winner of lots that are examined, by price and by points. A journal's file is read back
-unchanged, and each change of a line in it is found. Each text exists in English and in German, and each refusal of docs/API.md has a sentence. Then rules of
+unchanged, and each change of a line in it is found. Each refusal of docs/API.md has a sentence in English and in German. Then rules of
 the modules are changed, one at a time: these checks must find each change.
 """
 import base64
@@ -290,8 +290,8 @@ def test_journal(told):
     assert journal["ways"] and not journal["missed"] and journal["isSame"]
 
 
-def test_texts(told):
-    assert told["count"] and told["texts"] == []
+def test_texts(given_all, told):
+    assert given_all.asked["refusals"] and told["texts"] == []
 
 
 def test_each_outcome_comes(given_all):
@@ -316,4 +316,4 @@ def test_changed_rule(given_all, tmp_path, change):
         for test in (test_awards, test_budget_files, test_notices):
             test(given_all, told)
         test_journal(told)
-        test_texts(told)
+        test_texts(given_all, told)

@@ -16,9 +16,9 @@ from pathlib import Path
 import pytest
 
 from office_kit.client import budget
-from office_kit.common import CONFIG, busy, free_port, running
+from office_kit.common import CONFIG, free_port, running, within
 from office_kit.store import pages
-from office_kit.store.files import EMPTY, REFUSED, dump, made_line, scripts_of, sqlite, told, unlike, wrong
+from office_kit.store.files import EMPTY, REFUSED, dump, made_line, scripts_of, sqlite, unlike, wrong
 from office_kit.store.served import served
 
 pytestmark = pytest.mark.needs("sqlite3")
@@ -52,20 +52,22 @@ class Folder:
                 found[path.name] = about.st_mode, about.st_size, path.read_bytes() if is_file and os.access(path, os.R_OK) else None
         return found
 
-    def run(self, job="ledger", name="office.db", **how):
-        """Runs a program over the file of that name, in the folder."""
+    def run(self, job="ledger", name="office.db", seconds=LISTENS, **how):
+        """Runs a program over the file of that name, in the folder. It must end in so many seconds. (What it prints fits into a pipe.)"""
         more = {"serve": [str(free_port()), "1"], "ledger": [], "notices": []}.get(job, ["N1"])
         words = [self.program, job, os.path.join(os.path.dirname(self.program), "office.toml"), name, *more]
-        return told(subprocess.run(words, cwd=self.path, stdin=subprocess.DEVNULL, capture_output=True, text=True, timeout=LISTENS, **how))
+        pipes, in_time = {"stdin": subprocess.DEVNULL, "stdout": subprocess.PIPE, "stderr": subprocess.PIPE}, within(seconds)
+        with running(words, cwd=self.path, text=True, **pipes, **how) as process:
+            while process.poll() is None:
+                assert in_time(), f"{job} takes more than {seconds} s to refuse or to end"
+                time.sleep(0.002)
+            return process.returncode, *process.communicate()
 
     def refused(self, name="office.db", jobs=("serve", "ledger"), why="", **how):
         """These programs refuse the file at once, and nothing changes. A fault is reported with the reason for which they must refuse it."""
         for job in jobs:
-            before, slower, begun = self.found(), busy(), time.monotonic()
-            ended = self.run(job, name, **how)
-            took = time.monotonic() - begun
+            before, ended = self.found(), self.run(job, name, AT_ONCE, **how)
             assert ended == REFUSED, f"{why}{job} ended with {ended}"
-            assert took < AT_ONCE * max(slower, busy()), f"{why}{job} took {took:.1f} s to refuse"
             changed = unlike(before, self.found())
             assert not changed, f"{why}{job} changed {changed}"
 
