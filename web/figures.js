@@ -101,16 +101,18 @@ function used(line) {
   return sum(USED.map((kind) => line[kind]));
 }
 
+/** The budget lines that have an appropriation, in one of the orders. */
+export function linesBy(order, budget) {
+  const own = budget.filter(({ appropriation }) => appropriation > 0);
+  return order === "line" ? own : own.toSorted((one, other) => other[order] - one[order] || used(other) - used(one));
+}
+
 function byLine(budget, currency) {
   const rowOf = (line) => ({ name: link([`${line.line} `, given(line.title)], placeOf("line", line.line)), parts: pots((kind) => (kind === "free" ? 0 : line[kind])),
     told: [number(used(line)), below(say("see.chart.lines.of", { appropriation: number(line.appropriation) }))] });
   const all = pots((kind) => sum(budget.map((line) => line[kind])));
   const { made, input } = field(say("see.by.order"), { id: "lines-by", kind: "choice", value: ORDERS[0], options: ORDERS.map((name) => [name, say(`see.lines.by.${name}`)]) });
-  const draw = () => {
-    const own = budget.filter(({ appropriation }) => appropriation > 0);
-    const by = input.value === "line" ? own : own.toSorted((one, other) => other[input.value] - one[input.value] || used(other) - used(one));
-    return bars(say("see.chart.lines"), by.map(rowOf));
-  };
+  const draw = () => bars(say("see.chart.lines"), linesBy(input.value, budget).map(rowOf));
   const shown = element("div", {}, draw());
   input.addEventListener("change", () => shown.replaceChildren(...draw()));
   return card(say("see.chart.lines"), element("p", {}, say("see.chart.lines.what", { currency })), key(all, ` ${currency}`), made, shown);

@@ -120,7 +120,9 @@ def limit(desk: Desk, warn: int, forget: int) -> None:
 
 
 def letterheads(scene: Scene) -> None:
-    """Letters and minutes have the city's letterhead; a letter to anyone who lost says how to object. The tables of the minutes have captions."""
+    """Letters and minutes have the city's letterhead; a letter to anyone who lost says how to object. If the city's file doesn't say it, or says it in another
+    language, a note warns the clerk. The tables of the minutes have captions."""
+    Desk(scene, place="#letter/N1/L2").says("These letters don't say how to object, because city.json has no text about it.")
     own = {"letterhead": {"en": ["City of Example", "1 Town Hall Square"], "de": []}, "remedy": {"en": ["Object within ten days at the chamber."]}}
     city = scene.put("city/city.json", json.dumps(own).encode())
     objections = "[...document.querySelectorAll('.sheet')].map((at) => at.innerText.includes('Object within ten days'))"
@@ -128,7 +130,8 @@ def letterheads(scene: Scene) -> None:
         desk = Desk(scene)
         desk.go("letter/N1/L2", says=("City of Example", "1 Town Hall Square"))
         desk.page.gives(objections, [True])
-        desk.picture("letters-city")
+        desk.hides("because city.json has no text", picture="letters-city")
+        Desk(scene, place="?language=de#letter/N1/L2", language="de").says("Der Teil über den Einspruch steht in einer anderen Sprache")
         reasons(desk)
         signed(desk)
         desk.page.gives(objections, [False, False])

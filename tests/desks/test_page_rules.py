@@ -145,7 +145,7 @@ STATES = [("active", None, LATER, [], "open", "open"), ("active", None, PAST, []
           ("unsuccessful", 2, PAST, [], "stopped", "unsuccessful"), ("complete", 1, PAST, [(10, [], False)], "running", "unpaid"),
           ("complete", 1, PAST, [(10, [4], False), (10, [], True)], "running", "part"), ("complete", 1, PAST, [(10, [4, 6], False)], "done", "paid"),
           ("complete", 1, PAST, [(10, [4, 6], False), (10, [10], True)], "ended", "paid"),
-          ("complete", 1, PAST, [(10, [4, 6], True)], "ended", "complete"), ("complete", 1, PAST, [(10, [4], True)] * 2, "ended", "complete")]
+          ("active", 2, PAST, [], "running", "opened"), ("complete", 1, PAST, [(10, [4, 6], True)], "ended", "complete"), ("complete", 1, PAST, [(10, [4], True)] * 2, "ended", "complete")]
 # A lot's status, whether its contract ended, and its state.
 LOTS = [("complete", False, ["running", "contracted"]), ("complete", True, ["ended", "contractended"]), ("cancelled", False, ["stopped", "cancelled"]),
         ("active", False, ["running", "awarded"])]
@@ -160,8 +160,12 @@ def contracts_of(told, first=0):
 def states(node):
     """The state that the pages show for a procurement and for a lot. A contract that ended isn't shown as fulfilled, and its remaining value isn't counted."""
     for status, count, deadline, told, *wanted in STATES:
-        tender = {"status": status, "lots": [], "tenderPeriod": {"endDate": deadline}, **({} if count is None else {"numberOfTenderers": count})}
+        tender = {"status": status, "lots": [{"id": "L1", "status": status}], "tenderPeriod": {"endDate": deadline}, **({} if count is None else {"numberOfTenderers": count})}
         answers(node, "stateOf", ({"tender": tender, "contracts": contracts_of(told)}, NOW, wanted))
+        # The lists call it by the name that belongs to this state.
+        row = {"state": "cancelled" if status == "cancelled" else "opened" if count else "receiving", "deadline": deadline, "releases": 1}
+        known = {"status": status, "running": sum(not ended for _, _, ended in told), "releases": 1}
+        assert wanted[1] in STATE_NAMES[node.ask("async (...asked) => (await import(`${web}/common/filters.js`)).stateOf(...asked)", row, known, NOW)], row
     compiled = {"tender": {"status": "complete", "numberOfTenderers": 1}, "awards": [{"id": "0", "status": "active", "relatedLots": ["L1"]}]}
     for status, ended, wanted in LOTS:
         answers(node, "stateOfLot", ({**compiled, "contracts": contracts_of([(10, [10], ended)])}, {"id": "L1", "status": status}, wanted))
@@ -293,6 +297,9 @@ def stages(node):
     # Without a standstill none has ended.
     seen = seen_of("opened", ["awarded"], standstill=0)
     assert node.ask("stageSeen", seen, DEADLINE + 5)["tasks"] == ["signing", ["unsigned", "L1", DEADLINE], ["binds", BINDS]]
+    # Dates come after the tasks. The end of the validity is a task from two weeks before it on.
+    answers(node, "isFact", *(({"code": code, "until": 20 * DAY}, after * DAY, wanted) for code, after, wanted in
+                              (("binds", 6, True), ("binds", 7, False), ("standstill", 19, True), ("expired", 1, False), ("sign", 19, False))))
     entries = [{"notice": "runs", "seen": seen_of("opened", ["contracted"])}, {"notice": "binds", "seen": seen_of("opened", ["undecided"])},
                {"notice": "late", "state": "open", "deadline": "2026-07-01T00:00:00Z"},
                {"notice": "stands still", "seen": seen_of("opened", ["awarded", "undecided"])},
@@ -389,6 +396,10 @@ def pictures(node):
             "contracts": [{"notice": "N", "lot": name, "signed": "2025-12-31T23:59:59Z", "price": 4} for name in ("L1", "L2")]}
     # (In Berlin these were signed in 2026.)
     years = [("2026", 2, 3, 8, 10), ("2025", 0, 0, 0, 5)]
+    lines = [{"line": str(at), "appropriation": 9 * at, "paid": paid, "contracted": signed, "reserved": kept}
+             for at, (paid, signed, kept) in enumerate(((9, 9, 9), (0, 5, 0), (2, 0, 1), (2, 1, 1), (0, 0, 8)))]
+    for order, wanted in {"paid": "3241", "contracted": "1342", "reserved": "4321", "line": "1234"}.items():
+        answers(node, "(...asked) => linesBy(...asked).map(({ line }) => line).join('')", (order, lines, wanted))
     answers(node, "yearsOf", (told, [dict(zip(("year", "count", "estimate", "price", "paid"), one)) for one in years]))
 
 
