@@ -14,11 +14,11 @@ from office_kit.desks.large_checks import MOST_HEAD, folds_its_menu, timed
 from office_kit.desks.scene import Scene, staged
 from office_kit.mirror.tables import table
 
-# Whether the page would ask somebody who leaves it.
 # A text that is typed into the search of Today; then the number of notices that are found, the first of them, and the text by which it is found.
 WORDS = "A number or title, a firm, a contract or an invoice"
 TYPED = [("fire 078", 1, "N078", ""), ("n003", 1, "N003", ""), ("Firm 24", 1, "N001", "Firm 24 Ltd"), ("contract 5", 2, "N009", "Contract 5, Firm"),
          ("I-5", 1, "N005", "I-5: 1,000 EUR, Contract"), ("Clay tiles, purchase 8", 14, "N008", ""), ("purchase 7", 77, "N07", "")]
+# Whether the page would ask somebody who leaves it.
 ASKS = "(() => { const leave = new Event('beforeunload', { cancelable: true }); dispatchEvent(leave); return leave.defaultPrevented; })()"
 TITLE = "hands.field('Title', 'Terms').value"
 REASON = "A sentence is no price list."

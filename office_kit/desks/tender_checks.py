@@ -126,11 +126,11 @@ def lists_faults(_: Scene, desk: Desk) -> None:
     desk.press("Check before submitting", "things are missing or wrong:")
     names = {"Unit price of I1": "unit-0", "Unit price of I2": "unit-1", "Reference of the security": "security-reference", "Amount": "security-amount"}
     listed = texts_of(desk.page, ".bad li")
-    assert desk.page.run("document.activeElement.className") == "bad" and "4 things" in desk.page.text() and "I2 Use digits only." in listed[1], listed
+    assert desk.page.run("[document.activeElement.className, document.getElementById('unit-1-wrong').colSpan]") == ["bad", 5]
+    assert len(listed) == len(names) and "I2 Use digits only." in listed[1], listed
     for name, field in names.items():
         desk.press(name)
         assert desk.page.run("document.activeElement.id") == field, name
-    assert desk.page.run("document.getElementById('unit-1-wrong').colSpan") == 5
 
 
 def names_all(desk: Desk) -> None:

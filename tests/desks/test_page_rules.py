@@ -141,11 +141,12 @@ def helps(node):
 
 # The state of the tender, the moment of its opening, the deadline, its contracts (worth, payments, ended), and the state that the pages show for the
 # procurement.
-STATES = [("active", None, LATER, [], "open", "open"), ("active", None, PAST, [], "running", "waiting"), ("cancelled", None, LATER, [], "stopped", "cancelled"),
-          ("unsuccessful", 2, PAST, [], "stopped", "unsuccessful"), ("complete", 1, PAST, [(10, [], False)], "running", "unpaid"),
+STATES = [("active", None, LATER, [], "open", "open"), ("active", None, PAST, [], "running", "waiting"), ("active", 2, PAST, [], "running", "opened"),
+          ("cancelled", None, LATER, [], "stopped", "cancelled"), ("unsuccessful", 2, PAST, [], "stopped", "unsuccessful"),
+          ("complete", 1, PAST, [(10, [], False)], "running", "unpaid"),
           ("complete", 1, PAST, [(10, [4], False), (10, [], True)], "running", "part"), ("complete", 1, PAST, [(10, [4, 6], False)], "done", "paid"),
           ("complete", 1, PAST, [(10, [4, 6], False), (10, [10], True)], "ended", "paid"),
-          ("active", 2, PAST, [], "running", "opened"), ("complete", 1, PAST, [(10, [4, 6], True)], "ended", "complete"), ("complete", 1, PAST, [(10, [4], True)] * 2, "ended", "complete")]
+          ("complete", 1, PAST, [(10, [4, 6], True)], "ended", "complete"), ("complete", 1, PAST, [(10, [4], True)] * 2, "ended", "complete")]
 # A lot's status, whether its contract ended, and its state.
 LOTS = [("complete", False, ["running", "contracted"]), ("complete", True, ["ended", "contractended"]), ("cancelled", False, ["stopped", "cancelled"]),
         ("active", False, ["running", "awarded"])]
@@ -160,7 +161,8 @@ def contracts_of(told, first=0):
 def states(node):
     """The state that the pages show for a procurement and for a lot. A contract that ended isn't shown as fulfilled, and its remaining value isn't counted."""
     for status, count, deadline, told, *wanted in STATES:
-        tender = {"status": status, "lots": [{"id": "L1", "status": status}], "tenderPeriod": {"endDate": deadline}, **({} if count is None else {"numberOfTenderers": count})}
+        tender = {"status": status, "lots": [{"id": "L1", "status": status}], "tenderPeriod": {"endDate": deadline}}
+        tender |= {"numberOfTenderers": count} if count else {}
         answers(node, "stateOf", ({"tender": tender, "contracts": contracts_of(told)}, NOW, wanted))
         # The lists call it by the name that belongs to this state.
         row = {"state": "cancelled" if status == "cancelled" else "opened" if count else "receiving", "deadline": deadline, "releases": 1}
@@ -298,8 +300,8 @@ def stages(node):
     seen = seen_of("opened", ["awarded"], standstill=0)
     assert node.ask("stageSeen", seen, DEADLINE + 5)["tasks"] == ["signing", ["unsigned", "L1", DEADLINE], ["binds", BINDS]]
     # Dates come after the tasks. The end of the validity is a task from two weeks before it on.
-    answers(node, "isFact", *(({"code": code, "until": 20 * DAY}, after * DAY, wanted) for code, after, wanted in
-                              (("binds", 6, True), ("binds", 7, False), ("standstill", 19, True), ("expired", 1, False), ("sign", 19, False))))
+    for code, day, wanted in (("binds", 6, True), ("binds", 7, False), ("standstill", 19, True), ("expired", 1, False), ("sign", 19, False)):
+        answers(node, "isFact", ({"code": code, "until": 20 * DAY}, day * DAY, wanted))
     entries = [{"notice": "runs", "seen": seen_of("opened", ["contracted"])}, {"notice": "binds", "seen": seen_of("opened", ["undecided"])},
                {"notice": "late", "state": "open", "deadline": "2026-07-01T00:00:00Z"},
                {"notice": "stands still", "seen": seen_of("opened", ["awarded", "undecided"])},
