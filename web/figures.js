@@ -2,7 +2,7 @@
 // the time from the notice to the contract.
 import { bars, columns, grouped } from "./chart.js";
 import { grouped as groupedBy, sum, tables } from "./common/data.js";
-import { marksOf, monthOf } from "./common/days.js";
+import { marksOf, monthAfter, monthOf } from "./common/days.js";
 import { below, element, given, key, link, placeOf, section, title } from "./common/draw.js";
 import { field } from "./common/forms.js";
 import { number } from "./common/money.js";
@@ -23,12 +23,6 @@ function card(...content) {
   const made = section(...content);
   made.classList.add("card");
   return made;
-}
-
-/** The month of a moment, such as `2026-03`, so many months later. */
-function monthAfter(month, count) {
-  const [year, number_] = month.split("-").map(Number);
-  return new Date(Date.UTC(year, number_ - 1 + count, 1)).toISOString().slice(0, 7);
 }
 
 function monthText(month, parts) {

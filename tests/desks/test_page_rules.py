@@ -18,7 +18,7 @@ from office_kit.docs.help_pages import pages, sections_of
 from office_kit.mirror.tables import guarded, table
 
 pytestmark = pytest.mark.needs("node")
-NAMES = ("common/findings common/csv common/data common/days common/money common/texts common/zone figures tender/search tender/session clerk/budget "
+NAMES = ("common/findings common/data common/days common/money common/texts common/zone list figures tender/search tender/session clerk/budget "
          "clerk/convert clerk/notice clerk/values clerk/stage")
 # The most bytes that each page may load at once; the most bytes of all modules with the texts of one language, by gzip; the most lines of a module.
 MOST_BYTES, MOST_ZIPPED, MOST_LINES = {"page.js": 147_000, "tender/main.js": 150_000, "clerk/desk.js": 195_000}, 206_000, 300
