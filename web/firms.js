@@ -5,6 +5,7 @@ import { badge, below, element, facts, given, key, link, placeOf, section, title
 import { finder, searchable } from "./common/filters.js";
 import { kindOfSigned } from "./common/findings.js";
 import { field, table } from "./common/forms.js";
+import { growingTable } from "./common/many.js";
 import { day, number } from "./common/money.js";
 import { Refused } from "./common/office.js";
 import { say } from "./common/texts.js";
@@ -114,17 +115,18 @@ export async function drawFirm(tenderer) {
   }
   const notices = new Map(data.notices.map((row) => [row.notice, row]));
   const lots = new Map(data.lots.map((row) => [`${row.notice}/${row.lot}`, row]));
-  const ofTender = (all, { notice, lot }) => all.filter((row) => row.tenderer === tenderer && row.notice === notice && row.lot === lot).at(-1);
-  const own = data.tenders.filter((row) => row.tenderer === tenderer).sort((one, other) => other.receipt - one.receipt);
-  const cells = own.map((tender) => {
-    const contract = ofTender(data.contracts, tender);
+  const [tenders, awards, contracts] = [data.tenders, data.awards, data.contracts].map((all) => all.filter((row) => row.tenderer === tenderer));
+  const ofTender = (all, { notice, lot }) => all.findLast((row) => row.notice === notice && row.lot === lot);
+  const own = tenders.sort((one, other) => other.receipt - one.receipt);
+  const rowOf = (tender) => {
+    const contract = ofTender(contracts, tender);
     const { title: text, opened } = notices.get(tender.notice);
     const lot = lots.get(`${tender.notice}/${tender.lot}`);
-    const found = outcome(tender, lot, ofTender(data.awards, tender), contract);
+    const found = outcome(tender, lot, ofTender(awards, tender), contract);
     const bought = [say("see.lot", { lot: tender.lot }), ": ", given(lot.title)];
     return [[link(given(text), placeOf("notice", tender.notice, tender.lot)), below(bought), below(day(opened))],
     amount(tender.corrected), found, amount(contract ? worthNow(contract) : null), amount(contract?.paid ?? null)];
-  });
+  };
   const currency = data.notices[0].currency;
   const years = [...grouped(data.payments.filter((row) => row.tenderer === tenderer), ({ date }) => date.slice(0, 4))].sort().reverse();
   const byYear = years.map(([year, some]) => below(`${year}: ${number(sum(some.map((one) => one.amount)))}`));
@@ -133,6 +135,6 @@ export async function drawFirm(tenderer) {
     element("p", { class: "quiet" }, given(firm.address)),
     facts([[say("see.tenders"), number(firm.tenders)], [say("see.contracts"), number(firm.won)], [say("see.worth"), `${number(firm.worth)} ${currency}`],
       [say("see.paid"), [`${number(firm.paid)} ${currency}`, byYear]]]),
-    table(say("see.firm.table", { count: own.length, currency }), heads, cells, { figures: [1, 3, 4] }),
+    growingTable(say("see.firm.table", { count: own.length, currency }), heads, own, rowOf, { figures: [1, 3, 4] }),
     element("p", {}, link(say("see.firms.back"), "#firms"))] };
 }
