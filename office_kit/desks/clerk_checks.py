@@ -220,7 +220,8 @@ def contract_part(desk: Desk) -> None:
     desk.fill({NUMBER: "I-17", "Amount": "400"}, "Payment", says="Careful: 400 EUR was already paid under I-17.")
     desk.press("Record the payment …", "Payment", says="This number is already used in this contract.", picture="contract")
     desk.press("End the contract")
-    desk.order("End the contract as agreed", "Contract 2 has ended.", send="End the contract", says=("P1: Returned", "Ended as agreed"))
+    desk.order("End the contract as agreed", "Contract 2 has ended.", "", "Its performance security is returned.", "End the contract",
+               ("P1: Returned", "Ended as agreed"))
 
 
 def journal_part(desk: Desk) -> None:

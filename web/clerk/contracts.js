@@ -144,9 +144,10 @@ function endPart(contracted) {
 
 /** A default must be confirmed by typing a word, because the security is forfeited. */
 function endOrder(contracted, how) {
-  const { contract, outstanding, amount } = contracted;
+  const { notice, contract, outstanding, amount } = contracted;
+  const secured = notice.terms.performance > 0 ? [say(`end.security.${how}`)] : [];
   const freed = outstanding > 0 ? [say("end.frees", { amount: amount(outstanding) })] : [];
   const sure = how === "default" ? { word: say("end.word"), isSad: true } : { isFinal: true };
-  const says = [say(`end.does.${how}`), ...freed, say("end.stays")];
+  const says = [say(`end.does.${how}`), ...secured, ...freed, say("end.stays")];
   return orderOf(contracted, "end", "end", { how }, own.end(contract.id), { says, ...sure, again: "ContractEnded" });
 }

@@ -48,4 +48,6 @@ export default {
   "letter.points": "Von 100 Punkten hat Ihr Angebot {own} und das des Gewinners {best}.",
   "letters.noremedy": "Diese Schreiben sagen nicht, wie man Einspruch erhebt: city.json hat keinen Text darüber. Fragen Sie den Betreiber.",
   "letters.otherremedy": "Der Teil über den Einspruch steht in einer anderen Sprache: city.json hat keinen Text darüber in dieser. Fragen Sie den Betreiber.",
+  "end.security.regular": "Seine Vertragserfüllungssicherheit wird zurückgegeben.",
+  "end.security.default": "Seine Vertragserfüllungssicherheit verfällt.",
 };

@@ -48,4 +48,6 @@ export default {
   "letter.points": "Of 100 points your tender has {own}, and the winner's has {best}.",
   "letters.noremedy": "These letters don't say how to object, because city.json has no text about it. Ask the operator.",
   "letters.otherremedy": "The part about objecting is in another language, because city.json has no text about it in this one. Ask the operator.",
+  "end.security.regular": "Its performance security is returned.",
+  "end.security.default": "Its performance security is forfeited.",
 };
