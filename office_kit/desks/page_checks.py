@@ -141,8 +141,11 @@ def has_contrast(name: str, page: Page) -> None:
 
 
 def is_within(name: str, width: int, page: Page) -> None:
-    """Nothing is wider than the window. (A phone's `innerWidth` grows with its content.)"""
+    """Nothing is wider than the window, and no head of a table wider than its cell. (A phone's `innerWidth` grows with its content.)"""
     assert page.run("document.documentElement.scrollWidth") <= width, name
+    # (On a phone the heads are hidden in a pixel.)
+    heads = "[...document.querySelectorAll('th')].filter((at) => !(at.closest('thead')?.offsetWidth < 2) && at.scrollWidth > at.clientWidth + 1)"
+    assert page.run(f"{heads}.map((at) => at.textContent)") == [], name
 
 
 def fits(name: str, page: Page, *widths: int) -> None:
@@ -259,6 +262,7 @@ COMMON_PLANTS: list[tuple[str, Callable[[Scene, Page], None]]] = [
 PLANTS: list[tuple[str, Callable[[Scene, Page], None]]] = [
     *COMMON_PLANTS,
     ("document.querySelector('main h2').append(' x')", lambda _, page: says_what_it_should("paid", page)),
+    ("Object.assign(document.querySelector('main table').style, { tableLayout: 'fixed', width: '9rem' })", lambda _, page: is_within("planted", 1280, page)),
     ("document.querySelector('main dd, main td').remove()", lambda _, page: says_what_it_should("paid", page)),
     ("document.title = 'Another'", lambda _, page: has_its_own("paid", page)),
     ("document.body.append(document.createElement('script'))", lambda _, page: has_its_own("paid", page)),
