@@ -59,12 +59,13 @@ export function byMonth(payments, currency) {
 /** Payments by month, of all budget lines or of one. */
 function monthCard(data, currency) {
   const lineOf = new Map(data.lots.map((lot) => [`${lot.notice}/${lot.lot}`, lot.line]));
-  const payments = data.payments.map((row) => ({ ...row, line: lineOf.get(`${row.notice}/${row.lot}`) }));
-  const paid = new Set(payments.map(({ line }) => line));
+  const { payments } = data;
+  const of = ({ notice, lot }) => lineOf.get(`${notice}/${lot}`);
+  const paid = new Set(payments.map(of));
   const options = [["", say("see.any")], ...data.budget.filter(({ line }) => paid.has(line)).map(({ line, title: text }) => [line, `${line} ${text}`])];
   const { made, input } = field(say("see.by.line"), { id: "months-of", kind: "choice", options });
   const shown = element("div", {}, byMonth(payments, currency));
-  input.addEventListener("change", () => shown.replaceChildren(byMonth(payments.filter(({ line }) => [line, ""].includes(input.value)), currency)));
+  input.addEventListener("change", () => shown.replaceChildren(byMonth(input.value ? payments.filter((row) => of(row) === input.value) : payments, currency)));
   return card(say("see.chart.months"), payments.length > 0 ? made : null, shown);
 }
 

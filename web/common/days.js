@@ -72,8 +72,8 @@ function beginOf(month) {
 
 /** The month of a moment, such as `2026-03`, in the zone of the screens. (Only around its ends it isn't that of UTC.) */
 export function monthOf(text) {
-  const month = text.slice(0, 7);
-  if (!/-(01|2[89]|3\d)T/.test(text)) {
+  const [month, day] = [text.slice(0, 7), text.slice(8, 10)];
+  if (day > "01" && day < "28") {
     return month;
   }
   const at = Date.parse(text);

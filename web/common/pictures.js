@@ -84,8 +84,9 @@ export function daysOf(notice) {
   const cells = steps.map((one) => [say(`way.${one.step}`), one.lot ?? "–", daysText([one]), say(`way.is.${stateOfStep(one, now)}`)]);
   const box = (kind) => drawn("svg", { width: 22, height: 16 }, drawn("rect", { x: 1, y: 1, width: 20, height: 14, class: `span ${kind}` }));
   const line = drawn("svg", { width: 10, height: 16 }, drawn("line", { x1: 5, x2: 5, y1: 0, y2: 16, class: "now" }));
+  const isComing = steps.some((one) => one.to !== null && stateOfStep(one, now) !== "done");
   const made = section(say("way.title"), picture(`${say("way.title")}. ${told.join(". ")}.`, [...rows, axis]),
-    legend([[box("done"), say("way.is.done")], [box("coming"), say("way.is.coming")], ...(now <= range[1] ? [[line, say("way.now")]] : [])]),
+    legend([[box("done"), say("way.is.done")], ...(isComing ? [[box("coming"), say("way.is.coming")]] : []), ...(now <= range[1] ? [[line, say("way.now")]] : [])]),
     element("details", {}, element("summary", {}, say("picture.table")),
       table(say("way.title"), [say("way.step"), say("see.lot.short"), say("way.days"), say("see.state")], cells)));
   made.classList.add("card", "days");
