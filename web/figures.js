@@ -2,7 +2,7 @@
 // the time from the notice to the contract.
 import { bars, columns, grouped } from "./chart.js";
 import { grouped as groupedBy, sum, tables } from "./common/data.js";
-import { marksOf, monthOf } from "./common/days.js";
+import { marksOf, monthAfter, monthOf } from "./common/days.js";
 import { below, element, given, key, link, placeOf, section, title } from "./common/draw.js";
 import { field } from "./common/forms.js";
 import { number } from "./common/money.js";
@@ -23,12 +23,6 @@ function card(...content) {
   const made = section(...content);
   made.classList.add("card");
   return made;
-}
-
-/** The month of a moment, such as `2026-03`, so many months later. */
-function monthAfter(month, count) {
-  const [year, number_] = month.split("-").map(Number);
-  return new Date(Date.UTC(year, number_ - 1 + count, 1)).toISOString().slice(0, 7);
 }
 
 function monthText(month, parts) {
@@ -101,16 +95,18 @@ function used(line) {
   return sum(USED.map((kind) => line[kind]));
 }
 
+/** The budget lines that have an appropriation, in one of the orders. */
+export function linesBy(order, budget) {
+  const own = budget.filter(({ appropriation }) => appropriation > 0);
+  return order === "line" ? own : own.toSorted((one, other) => other[order] - one[order] || used(other) - used(one));
+}
+
 function byLine(budget, currency) {
   const rowOf = (line) => ({ name: link([`${line.line} `, given(line.title)], placeOf("line", line.line)), parts: pots((kind) => (kind === "free" ? 0 : line[kind])),
     told: [number(used(line)), below(say("see.chart.lines.of", { appropriation: number(line.appropriation) }))] });
   const all = pots((kind) => sum(budget.map((line) => line[kind])));
   const { made, input } = field(say("see.by.order"), { id: "lines-by", kind: "choice", value: ORDERS[0], options: ORDERS.map((name) => [name, say(`see.lines.by.${name}`)]) });
-  const draw = () => {
-    const own = budget.filter(({ appropriation }) => appropriation > 0);
-    const by = input.value === "line" ? own : own.toSorted((one, other) => other[input.value] - one[input.value] || used(other) - used(one));
-    return bars(say("see.chart.lines"), by.map(rowOf));
-  };
+  const draw = () => bars(say("see.chart.lines"), linesBy(input.value, budget).map(rowOf));
   const shown = element("div", {}, draw());
   input.addEventListener("change", () => shown.replaceChildren(...draw()));
   return card(say("see.chart.lines"), element("p", {}, say("see.chart.lines.what", { currency })), key(all, ` ${currency}`), made, shown);

@@ -1,6 +1,5 @@
 // The list of all procurements: open ones first, with a clock to the deadline. The address holds the filters
 // and the order.
-import { tableOf } from "./common/csv.js";
 import { tables } from "./common/data.js";
 import { element, fresh, given, link, placeOf, title } from "./common/draw.js";
 import { NAMES, ORDERS, STATES, addressOf, chosen, entriesOf, filtersOf, noticeOf, ordered } from "./common/filters.js";
@@ -29,6 +28,15 @@ function part(name, entries) {
   const head = element("h2", { id: fresh("part"), tabindex: "-1" }, text);
   return { jump: jumpTo(head, text), made: element("section", { "aria-labelledby": head.id }, head,
     growing(element("ol", { class: "list", "aria-label": text }), entries, entry, AT_ONCE, FIRST)) };
+}
+
+/** A table as a file for spreadsheets: its names, and rows of texts and numbers. A text that a sheet would read
+ * as a formula has an apostrophe before it, as in the tables of the mirror. `separator` is a semicolon where
+ * numbers have commas. */
+export function tableOf(names, rows, separator = ",") {
+  const guarded = (text) => text.replace(/(^|[,;\t|])('*)(?=[=+\-@\t\r])/g, "$1'$2");
+  const cell = (value) => (typeof value === "number" ? String(value) : `"${guarded(String(value ?? "")).replaceAll('"', '""')}"`);
+  return `\ufeff${[names, ...rows].map((row) => row.map(cell).join(separator)).join("\r\n")}\r\n`;
 }
 
 /** Saves the entries that are shown as a table. */

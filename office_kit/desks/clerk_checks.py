@@ -154,6 +154,9 @@ def award_part(desk: Desk) -> None:
 def examination_part(desk: Desk) -> None:
     """The clerk examines two tenders. A second tab has the same task, and is older then. It learns of the examinations from the office."""
     desk.says("2 tenders to examine", picture="evaluation")
+    # (tasks in the note, dates below it)
+    lists = "['.look li', 'ul.quiet li'].map((at) => [...document.querySelectorAll(`main ${at}`)].map((one) => one.textContent.split(' ', 2).join(' ')))"
+    desk.page.gives(lists, [["Lot L1:", "Lot L2:"], ["Tenders are"]])
     desk.is_off("Award the lot …", "Lot L1")
     other = with_key(desk.scene)
     other.says(("Examine tenders (1)", "Tenders valid until"))

@@ -14,11 +14,11 @@ from office_kit.desks.large_checks import MOST_HEAD, folds_its_menu, timed
 from office_kit.desks.scene import Scene, staged
 from office_kit.mirror.tables import table
 
-# Whether the page would ask somebody who leaves it.
 # A text that is typed into the search of Today; then the number of notices that are found, the first of them, and the text by which it is found.
 WORDS = "A number or title, a firm, a contract or an invoice"
 TYPED = [("fire 078", 1, "N078", ""), ("n003", 1, "N003", ""), ("Firm 24", 1, "N001", "Firm 24 Ltd"), ("contract 5", 2, "N009", "Contract 5, Firm"),
          ("I-5", 1, "N005", "I-5: 1,000 EUR, Contract"), ("Clay tiles, purchase 8", 14, "N008", ""), ("purchase 7", 77, "N07", "")]
+# Whether the page would ask somebody who leaves it.
 ASKS = "(() => { const leave = new Event('beforeunload', { cancelable: true }); dispatchEvent(leave); return leave.defaultPrevented; })()"
 TITLE = "hands.field('Title', 'Terms').value"
 REASON = "A sentence is no price list."
@@ -120,7 +120,9 @@ def limit(desk: Desk, warn: int, forget: int) -> None:
 
 
 def letterheads(scene: Scene) -> None:
-    """Letters and minutes have the city's letterhead; a letter to anyone who lost says how to object. The tables of the minutes have captions."""
+    """Letters and minutes have the city's letterhead; a letter to anyone who lost says how to object. If the city's file doesn't say it, or says it in another
+    language, a note warns the clerk. The tables of the minutes have captions."""
+    Desk(scene, place="#letter/N1/L2").says("These letters don't say how to object, because city.json has no text about it.")
     own = {"letterhead": {"en": ["City of Example", "1 Town Hall Square"], "de": []}, "remedy": {"en": ["Object within ten days at the chamber."]}}
     city = scene.put("city/city.json", json.dumps(own).encode())
     objections = "[...document.querySelectorAll('.sheet')].map((at) => at.innerText.includes('Object within ten days'))"
@@ -128,7 +130,8 @@ def letterheads(scene: Scene) -> None:
         desk = Desk(scene)
         desk.go("letter/N1/L2", says=("City of Example", "1 Town Hall Square"))
         desk.page.gives(objections, [True])
-        desk.picture("letters-city")
+        desk.hides("because city.json has no text", picture="letters-city")
+        Desk(scene, place="?language=de#letter/N1/L2", language="de").says("Der Teil über den Einspruch steht in einer anderen Sprache")
         reasons(desk)
         signed(desk)
         desk.page.gives(objections, [False, False])

@@ -118,6 +118,10 @@ def search(scene: Scene) -> None:
     for words, line in (("POOL", "Budget line 2000"), ("3100", "Budget line 3100")):
         page.fill("by-line", words)
         assert texts_of(page, ".lines h3 a") == [line]
+    page.go(scene.front.address("#figures"))
+    for order, line in {"line": "1100 Roads", "contracted": "1500 Street", "reserved": "1100 Roads", "paid": "1100 Roads"}.items():
+        page.run(f"(() => {{ const at = document.getElementById('lines-by'); at.value = '{order}'; at.dispatchEvent(new Event('change')); }})()")
+        assert texts_of(page, "#lines-by ~ ul .name, section:has(#lines-by) .bars .name")[0].startswith(line), order
     page.go(scene.front.address("#notice/n6"))
     assert page.run("location.hash") == "#notice/N6" and page.text().startswith("Street lamps\n")
     is_quiet(page)

@@ -70,6 +70,7 @@ def offer(scene: Scene) -> None:
     city = scene.put("city/city.json", json.dumps(CITY).encode())
     desk = Desk(scene, "T1")
     finds_notice(desk)
+    lists_faults(scene, desk)
     sums(scene, desk)
     # A security with a wrong reference can't be sent; with a right one the tender can be checked.
     desk.secure("G 1", 50)
@@ -116,13 +117,20 @@ def finds_notice(desk: Desk) -> None:
     for unit, text in (("12.5", "no point and no comma. Round it, or ask the clerk for a larger unit"), ("1000000001", "too much"), ("x", "digits only")):
         desk.fill("unit-1", unit)
         assert text in desk.page.text(), unit
-    # All faults are listed, and each leads to its field. That of a price is below its row, over the whole width.
-    desk.press("Check before submitting", "4 things are missing or wrong:")
-    wanted = ["Unit price of I1 A whole number is missing here.", "Unit price of I2 Use digits only.", "Reference of the security ", "Amount "]
+
+
+def lists_faults(_: Scene, desk: Desk) -> None:
+    """The button lists all faults, and each leads to its field. That of a price is below its row, over the whole width."""
+    desk.at("offer/N1/L1", "Tender for")
+    desk.fill("unit-1", "x")
+    desk.press("Check before submitting", "things are missing or wrong:")
+    names = {"Unit price of I1": "unit-0", "Unit price of I2": "unit-1", "Reference of the security": "security-reference", "Amount": "security-amount"}
     listed = texts_of(desk.page, ".bad li")
-    assert desk.page.run("document.activeElement.className") == "bad" and all(text.startswith(it) for text, it in zip(listed, wanted, strict=True)), listed
-    desk.press("Unit price of I2")
-    assert desk.page.run("[document.activeElement.id, document.getElementById('unit-1-wrong').colSpan]") == ["unit-1", 5]
+    assert desk.page.run("[document.activeElement.className, document.getElementById('unit-1-wrong').colSpan]") == ["bad", 5]
+    assert len(listed) == len(names) and "I2 Use digits only." in listed[1], listed
+    for name, field in names.items():
+        desk.press(name)
+        assert desk.page.run("document.activeElement.id") == field, name
 
 
 def names_all(desk: Desk) -> None:

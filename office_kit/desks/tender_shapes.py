@@ -9,7 +9,7 @@ from office_kit.desks import page_checks
 from office_kit.desks.browser import Page
 from office_kit.desks.page_checks import focused, in_all_shapes, is_quiet, is_read_out, keeps_nothing, printed_to
 from office_kit.desks.scene import Scene
-from office_kit.desks.tender_checks import ITEMS, sums
+from office_kit.desks.tender_checks import ITEMS, lists_faults, sums
 from office_kit.desks.tender_page import MADE, RIGHT, SHEET, Desk, planted
 
 
@@ -196,6 +196,7 @@ def wants_tick(scene: Scene, desk: Desk) -> None:
 PLANTS: list[tuple[str, str, str, str, Callable[[Scene, Desk], None]]] = [
     ("receipt", "const isSame = own === others;", "const isSame = true;", "T1", other_digest),
     ("session", "BigInt(value) * BigInt(offer.lot.items[at].quantity)", "BigInt(value)", "T1", sums),
+    ("offer", "[...prices.faults(), ...secured.faults()]", "prices.faults()", "T1", lists_faults),
     ("tenders", "press.disabled = true;\n  const sure", "press.disabled = false;\n  const sure", "T2", wants_tick),
     ("session", "export const session", "localStorage.setItem('key', 'x');\nexport const session", "T1", lambda scene, desk: keeps_nothing(scene, desk.page)),
     ("main", "const MENU = {", "fetch('https://127.0.0.2/').catch(() => 0);\nconst MENU = {", "T1", lambda scene, desk: keeps_nothing(scene, desk.page)),

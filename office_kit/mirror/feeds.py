@@ -61,22 +61,16 @@ def of_notices(base: str, path: str, language: str, notices: list[Notice], now: 
 
 def of_events(base: str, path: str, language: str, notices: list[Notice], now: str) -> str:
     releases = sorted(((release["date"], release["id"], one, release) for one in notices for release in one.releases), key=lambda it: it[:2], reverse=True)
-    entries = []
-    for date, number, one, release in releases[:NEWEST]:
-        head, told = event(language, one, release)
-        entries.append((date, entry(address(base, language, one.name), f"urn:ocds:{number}", f"{head}: {one.row['title']} ({one.name})", date, date, told)))
+    entries = [(date, entry(address(base, language, one.name), f"urn:ocds:{number}", f"{head}: {one.row['title']} ({one.name})", date, date, told))
+               for date, number, one, release in releases[:NEWEST] for head, told in [event(language, one, release)]]
     return feed_of(base, path, language, "feed", notices, entries, now)
 
 
 def feeds(base: str, notices: list[Notice], now: str) -> dict[str, str]:
     """Both feeds in each language, and at the top in the office's language."""
     places = [("", language_of(notices)), *((f"{language}/", language) for language in LANGUAGES)]
-    made = {}
-    for folder, language in places:
-        for kind, of in (("notices", of_notices), ("feed", of_events)):
-            path = f"{folder}{kind}.atom"
-            made[path] = of(base, path, language, notices, now)
-    return made
+    made = [(f"{folder}{kind}.atom", of, language) for folder, language in places for kind, of in (("notices", of_notices), ("feed", of_events))]
+    return {path: of(base, path, language, notices, now) for path, of, language in made}
 
 
 def sitemaps(base: str, known: dict[str, Json]) -> dict[str, str]:

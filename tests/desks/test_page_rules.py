@@ -18,7 +18,7 @@ from office_kit.docs.help_pages import pages, sections_of
 from office_kit.mirror.tables import guarded, table
 
 pytestmark = pytest.mark.needs("node")
-NAMES = ("common/findings common/csv common/data common/days common/money common/texts common/zone figures tender/search tender/session clerk/budget "
+NAMES = ("common/findings common/data common/days common/money common/texts common/zone list figures tender/search tender/session clerk/budget "
          "clerk/convert clerk/notice clerk/values clerk/stage")
 # The most bytes that each page may load at once; the most bytes of all modules with the texts of one language, by gzip; the most lines of a module.
 MOST_BYTES, MOST_ZIPPED, MOST_LINES = {"page.js": 147_000, "tender/main.js": 150_000, "clerk/desk.js": 195_000}, 206_000, 300
@@ -141,8 +141,9 @@ def helps(node):
 
 # The state of the tender, the moment of its opening, the deadline, its contracts (worth, payments, ended), and the state that the pages show for the
 # procurement.
-STATES = [("active", None, LATER, [], "open", "open"), ("active", None, PAST, [], "running", "waiting"), ("cancelled", None, LATER, [], "stopped", "cancelled"),
-          ("unsuccessful", 2, PAST, [], "stopped", "unsuccessful"), ("complete", 1, PAST, [(10, [], False)], "running", "unpaid"),
+STATES = [("active", None, LATER, [], "open", "open"), ("active", None, PAST, [], "running", "waiting"), ("active", 2, PAST, [], "running", "opened"),
+          ("cancelled", None, LATER, [], "stopped", "cancelled"), ("unsuccessful", 2, PAST, [], "stopped", "unsuccessful"),
+          ("complete", 1, PAST, [(10, [], False)], "running", "unpaid"),
           ("complete", 1, PAST, [(10, [4], False), (10, [], True)], "running", "part"), ("complete", 1, PAST, [(10, [4, 6], False)], "done", "paid"),
           ("complete", 1, PAST, [(10, [4, 6], False), (10, [10], True)], "ended", "paid"),
           ("complete", 1, PAST, [(10, [4, 6], True)], "ended", "complete"), ("complete", 1, PAST, [(10, [4], True)] * 2, "ended", "complete")]
@@ -160,8 +161,13 @@ def contracts_of(told, first=0):
 def states(node):
     """The state that the pages show for a procurement and for a lot. A contract that ended isn't shown as fulfilled, and its remaining value isn't counted."""
     for status, count, deadline, told, *wanted in STATES:
-        tender = {"status": status, "lots": [], "tenderPeriod": {"endDate": deadline}, **({} if count is None else {"numberOfTenderers": count})}
+        tender = {"status": status, "lots": [{"id": "L1", "status": status}], "tenderPeriod": {"endDate": deadline}}
+        tender |= {"numberOfTenderers": count} if count else {}
         answers(node, "stateOf", ({"tender": tender, "contracts": contracts_of(told)}, NOW, wanted))
+        # The lists call it by the name that belongs to this state.
+        row = {"state": "cancelled" if status == "cancelled" else "opened" if count else "receiving", "deadline": deadline, "releases": 1}
+        known = {"status": status, "running": sum(not ended for _, _, ended in told), "releases": 1}
+        assert wanted[1] in STATE_NAMES[node.ask("async (...asked) => (await import(`${web}/common/filters.js`)).stateOf(...asked)", row, known, NOW)], row
     compiled = {"tender": {"status": "complete", "numberOfTenderers": 1}, "awards": [{"id": "0", "status": "active", "relatedLots": ["L1"]}]}
     for status, ended, wanted in LOTS:
         answers(node, "stateOfLot", ({**compiled, "contracts": contracts_of([(10, [10], ended)])}, {"id": "L1", "status": status}, wanted))
@@ -293,6 +299,9 @@ def stages(node):
     # Without a standstill none has ended.
     seen = seen_of("opened", ["awarded"], standstill=0)
     assert node.ask("stageSeen", seen, DEADLINE + 5)["tasks"] == ["signing", ["unsigned", "L1", DEADLINE], ["binds", BINDS]]
+    # Dates come after the tasks. The end of the validity is a task from two weeks before it on.
+    for code, day, wanted in (("binds", 6, True), ("binds", 7, False), ("standstill", 19, True), ("expired", 1, False), ("sign", 19, False)):
+        answers(node, "isFact", ({"code": code, "until": 20 * DAY}, day * DAY, wanted))
     entries = [{"notice": "runs", "seen": seen_of("opened", ["contracted"])}, {"notice": "binds", "seen": seen_of("opened", ["undecided"])},
                {"notice": "late", "state": "open", "deadline": "2026-07-01T00:00:00Z"},
                {"notice": "stands still", "seen": seen_of("opened", ["awarded", "undecided"])},
@@ -389,6 +398,10 @@ def pictures(node):
             "contracts": [{"notice": "N", "lot": name, "signed": "2025-12-31T23:59:59Z", "price": 4} for name in ("L1", "L2")]}
     # (In Berlin these were signed in 2026.)
     years = [("2026", 2, 3, 8, 10), ("2025", 0, 0, 0, 5)]
+    lines = [{"line": str(at), "appropriation": 9 * at, "paid": paid, "contracted": signed, "reserved": kept}
+             for at, (paid, signed, kept) in enumerate(((9, 9, 9), (0, 5, 0), (2, 0, 1), (2, 1, 1), (0, 0, 8)))]
+    for order, wanted in {"paid": "3241", "contracted": "1342", "reserved": "4321", "line": "1234"}.items():
+        answers(node, "(...asked) => linesBy(...asked).map(({ line }) => line).join('')", (order, lines, wanted))
     answers(node, "yearsOf", (told, [dict(zip(("year", "count", "estimate", "price", "paid"), one)) for one in years]))
 
 

@@ -5,8 +5,8 @@ import { countdown, moment, span, when } from "../common/money.js";
 import { evaluationText, officeNow, record, terms } from "../common/office.js";
 import { say, sayParts } from "../common/texts.js";
 import { caller, may } from "./session.js";
-import { isDate, rolesOf, stageOf, tasksOf } from "./stage.js";
-import { DAY, momentText } from "./values.js";
+import { isFact, rolesOf, stageOf, tasksOf } from "./stage.js";
+import { momentText } from "./values.js";
 
 // The results of queries for an opened notice are used for a minute, unless the notice has a new release or
 // this tab sent a command. An examination by another clerk has no release.
@@ -49,15 +49,8 @@ export function momentAndSpan(milliseconds, shown = when, units = 2) {
   return [shown(momentText(milliseconds) ?? ""), " ", away];
 }
 
-// From this long before its end on, the validity of the tenders is among the tasks.
-const CLOSE = 14 * DAY;
 // Tasks whose moment is a deadline.
 const DEADLINES = ["wait", "open"];
-
-/** Whether a task is only a date, which is shown after the tasks. */
-function isFact({ code, until }, now) {
-  return isDate(code) && (code !== "binds" || until - now >= CLOSE);
-}
 
 /** Whether a task is this clerk's own, or only a date. */
 export function isOwn(task) {

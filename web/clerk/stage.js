@@ -109,11 +109,16 @@ export function tasksOf(stage, now) {
 export const GROUPS = ["overdue", "week", "later", "waiting"];
 const OVERDUE = ["open", "sign", "expired"], NOW = ["examine", "award", "endlot", "unsigned"], RUNNING = ["contract", "end"];
 // Dates to wait for, in the order in which they are shown after the tasks.
-const DATES = ["contract", "wait", "standstill", "binds"];
+const DATES = ["contract", "wait", "standstill", "binds"], CLOSE = 14 * DAY;
 
 /** Whether a task is only a date to wait for. */
 export function isDate(code) {
   return DATES.includes(code);
+}
+
+/** Whether a task is shown after the tasks, as a date. The end of the tenders' validity is a task from two weeks before it on. */
+export function isFact({ code, until }, now) {
+  return isDate(code) && (code !== "binds" || until - now >= CLOSE);
 }
 
 /** The group of a notice by those of its tasks that are this clerk's own, and the first of the tasks that put it there. */

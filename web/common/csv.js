@@ -34,38 +34,38 @@ export function contentOf(binary) {
  * separators are for files to be converted. */
 export function recordsOf(binary, separator = ",") {
   const records = [];
+  // (Signs that end nothing are taken together.)
+  const plain = new RegExp(`[^"\\r\\n${separator}]+`, "y");
   let [fields, field, state, line, begun] = [[], "", "before", 1, 1];
-  const ended = () => records.push({ line: begun, fields: [...fields, field] });
-  for (let at = 0; at < binary.length; at += 1) {
-    const sign = binary[at];
+  const ended = () => {
+    fields.push(field);
+    field = "";
+    return fields;
+  };
+  for (let at = 0; at < binary.length; at = plain.lastIndex) {
+    plain.lastIndex = at;
+    const sign = plain.exec(binary)?.[0] ?? binary[at];
+    plain.lastIndex = at + sign.length;
     begun = state === "before" ? line : begun;
     if (state === "quoted") {
       [state, field] = sign === '"' ? ["closed", field] : ["quoted", field + sign];
     } else if (sign === '"' && state !== "inside") {
       [state, field] = ["quoted", state === "closed" ? `${field}"` : field];
     } else if (sign === separator) {
-      [state, fields, field] = ["field", [...fields, field], ""];
+      ended();
+      state = "field";
     } else if (sign !== "\r" && sign !== "\n") {
       [state, field] = ["inside", field + sign];
     } else if (state !== "before") {
-      ended();
-      [state, fields, field] = ["before", [], ""];
+      records.push({ line: begun, fields: ended() });
+      [state, fields] = ["before", []];
     }
     line += sign === "\n" || (sign === "\r" && binary[at + 1] !== "\n") ? 1 : 0;
   }
   if (state !== "before") {
-    ended();
+    records.push({ line: begun, fields: ended() });
   }
   return { records, isOpen: state === "quoted" };
-}
-
-/** A table as a file for spreadsheets: its names, and rows of texts and numbers. A text that a sheet would read
- * as a formula has an apostrophe before it, as in the tables of the mirror. `separator` is a semicolon where
- * numbers have commas. */
-export function tableOf(names, rows, separator = ",") {
-  const guarded = (text) => text.replace(/(^|[,;\t|])('*)(?=[=+\-@\t\r])/g, "$1'$2");
-  const cell = (value) => (typeof value === "number" ? String(value) : `"${guarded(String(value ?? "")).replaceAll('"', '""')}"`);
-  return `\ufeff${[names, ...rows].map((row) => row.map(cell).join(separator)).join("\r\n")}\r\n`;
 }
 
 /** The number that a field writes: 1 to 16 digits and nothing else, at most 10^15; else null. */

@@ -8,17 +8,22 @@ const FIGURES = new Set(["amount", "appropriation", "amendments", "changes", "co
 
 /** The value of a cell: a number, or null if the cell is empty. (The mirror puts an apostrophe wherever a
  * spreadsheet would read what follows as a formula.) */
-function valueOf(name, text) {
-  if (FIGURES.has(name)) {
+function valueOf(isFigure, text) {
+  if (isFigure) {
     return text === "" ? null : Number(text);
   }
-  return text.replace(/(^|[,;\t|])'('*)(?=[=+\-@\t\r])/g, "$1$2");
+  return text.includes("'") ? text.replace(/(^|[,;\t|])'('*)(?=[=+\-@\t\r])/g, "$1$2") : text;
 }
 
 /** The rows of a table, each keyed by the column names in the first row. */
 export function rowsOf(text) {
-  const [head = [], ...records] = recordsOf(text).records.map(({ fields }) => fields);
-  return records.map((fields) => Object.fromEntries(head.map((name, at) => [name, valueOf(name, fields[at] ?? "")])));
+  const [head, ...records] = recordsOf(text).records;
+  const columns = (head?.fields ?? []).map((name) => [name, FIGURES.has(name)]);
+  return records.map(({ fields }) => {
+    const row = {};
+    columns.forEach(([name, isFigure], at) => { row[name] = valueOf(isFigure, fields[at] ?? ""); });
+    return row;
+  });
 }
 
 /** The rows of one of the mirror's tables, such as `lots`; null if there is no mirror. */

@@ -1,6 +1,6 @@
 // The days of a procurement: when each of its steps began and ended, or will. Also runs in node.
 import { awardsOf, contractOf, endOf } from "./findings.js";
-import { wallOf } from "./zone.js";
+import { atWall, zone } from "./zone.js";
 
 const DAY = 86_400_000;
 /** The steps, in the order in which they are shown. */
@@ -53,9 +53,31 @@ export function rangeOf(steps, now, isActive) {
   return [least, Math.max(...ends, isOver ? least : now, least + DAY)];
 }
 
+/** The month so many months after one such as `2026-03`. */
+export function monthAfter(month, count) {
+  const [year, number] = month.split("-").map(Number);
+  return new Date(Date.UTC(year, number - 1 + count, 1)).toISOString().slice(0, 7);
+}
+
+// The moments at which months begin, by their zone and name. (A table of payments asks for each some hundred times.)
+const begins = new Map();
+
+function beginOf(month) {
+  const name = `${zone()} ${month}`;
+  if (!begins.has(name)) {
+    begins.set(name, atWall(Date.parse(`${month}-01`)));
+  }
+  return begins.get(name);
+}
+
 /** The month of a moment, such as `2026-03`, in the zone of the screens. (Only around its ends it isn't that of UTC.) */
 export function monthOf(text) {
-  return /-(01|2[89]|3\d)T/.test(text) ? new Date(wallOf(Date.parse(text))).toISOString().slice(0, 7) : text.slice(0, 7);
+  const month = text.slice(0, 7);
+  if (!/-(01|2[89]|3\d)T/.test(text)) {
+    return month;
+  }
+  const at = Date.parse(text);
+  return at < beginOf(month) ? monthAfter(month, -1) : at < beginOf(monthAfter(month, 1)) ? month : monthAfter(month, 1);
 }
 
 // The steps between the marks of an axis, each with about so many days.
