@@ -16,7 +16,7 @@ let charts = 0;
 const FIRST = 25, AT_ONCE = 100;
 // The height of a picture of columns, the gap above them, and the most amounts beside them.
 const HEIGHT = 180, ABOVE = 8, AMOUNTS = 4;
-// A picture of columns has room for at least so many, so that a single one isn't as wide as the picture.
+// A picture of columns has places for at least so many, so that a single one isn't as wide as the picture.
 const LEAST = 12;
 
 function patternsOf(chart, kinds) {

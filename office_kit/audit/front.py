@@ -174,7 +174,7 @@ def lots_of(lots: Iterable[Json]) -> Json:
 
 
 def publication(office: Office, notice: str, deadline: str) -> Json | None:
-    """What the body of a publication must say, with the deadline of its release, which may have moved since."""
+    """The body of a publication, with the deadline of its release, which may have moved since."""
     if (notice,) not in office.table("notices"):
         return None
     told = terms_of(office, notice)
@@ -183,7 +183,7 @@ def publication(office: Office, notice: str, deadline: str) -> Json | None:
 
 
 def told_by(office: Office, notice: str, release: Json) -> tuple[str, str | None, Json | None]:
-    """The route of the command that made a release, the identifier of a payment or a change, and what the body must say by the rows."""
+    """The route of the command that made a release, the identifier of a payment or a change, and the body by the rows."""
     tender, award, contract = release.get("tender", {}), *(release.get(name, [{}])[0] for name in ("awards", "contracts"))
     match release["tag"]:
         case ["planning", "tender"]:

@@ -144,7 +144,7 @@ def lost_key(scene: Scene) -> None:
 
 
 def beside(scene: Scene) -> None:
-    """What isn't in the register: the portal and both desks show the documents of a notice; its letters and the portal's list are saved as files."""
+    """Beside the register, the portal and both desks show the documents of a notice. Its letters and the portal's list are saved as files."""
     content = Path(scene.put("documents/N1/plan.pdf", b"%PDF-1.4 a plan")).read_bytes()
     mirror_beside(scene.front, "--documents", scene.path("documents"))
     clerk, firm = clerk_desk.with_key(scene), Desk(scene)

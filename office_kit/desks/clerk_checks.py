@@ -27,7 +27,7 @@ NUMBER = "Number of the invoice or change"
 ACCEPTS_FILE, ACCEPTS_NOTICE = "The register would accept this file.", "The register would accept this notice."
 NOT_DONE = "This isn't done: the register's data shows nothing of it."
 NO_MATCH = "This isn't the clerk's key."
-# What the window of an award says: also how far the price is below the estimate and the next one.
+# The window of an award says also how far the price is below the estimate and the next one.
 AWARDS = ("Award lot L1 of notice N1 to Beta Ltd", "The price is 1,060 EUR (66.3%) below the estimate.",
           "It is 30 EUR (5.3%) below the next price, that of Alpha & Söhne.")
 
