@@ -249,11 +249,12 @@ def counts(front, office):
 # ---- How long answers are kept, and how many the office makes at a time.
 
 def kept(front, office):
-    """`Last-Modified` is the moment of the office's answer. (nginx counts the age of an answer in whole seconds.)"""
+    """`Last-Modified` is the moment of the office's answer. (nginx counts the age of an answer in whole seconds. So it asks the office again after three to
+    four seconds, if it keeps the answer for three, and after one to two, if it keeps it for one.)"""
+    begun, seen = time.monotonic(), {}
     given = {path: front.ask("GET", path).head["Last-Modified"] for path in PUBLIC}
     for path, moment in given.items():
         assert moment and abs(email.utils.parsedate_to_datetime(moment).timestamp() - time.time()) < 9, path
-    begun, seen = time.monotonic(), {}
     slower = busy()
     while time.monotonic() - begun < 5.5 * slower:
         for number, path in enumerate(PUBLIC, 1):
@@ -261,8 +262,8 @@ def kept(front, office):
             if answer.head["Last-Modified"] != given[path]:
                 seen.setdefault(path, at)
         time.sleep(0.1)
-    assert all(seen.get(path, 99) < 2.5 * slower for path in ("/notices", "/notices/N1/terms")), seen
-    assert all(1.9 < seen.get(path, 99) < 4.6 * slower for path in DEAR if path != "/ledger"), seen
+    assert all(seen.get(path, 99) < 2.7 * slower for path in ("/notices", "/notices/N1/terms")), seen
+    assert all(2.5 < seen.get(path, 99) < 4.8 * slower for path in DEAR if path != "/ledger"), seen
     assert "/ledger" not in seen and paths_at(office).count("/ledger") == 1
 
 
