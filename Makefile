@@ -11,7 +11,7 @@
 # make soak      the long forms, after `make test`: hours of kills, failing disks, large old files, all pictures of the
 #                screens, and the mutants of edits/ (tools/soak --help)
 # make release   packs build/procure as an archive and a Debian package, to build/release (tools/release --help)
-# make bench     measures build/procure (bench/desk --help)
+# make bench     measures build/procure (bench/serve --help)
 RT ?= rt
 # How many checks run side by side (office_kit/gate/lanes.py). If it is empty, rt decides.
 RT_JOBS ?= $(shell python3 -B -m office_kit.gate.lanes)
@@ -20,7 +20,8 @@ export RT RT_JOBS
 .PHONY: run build try test check docs pictures edits soak release bench
 
 run:
-	@sh tools/first_run/run.sh
+	@program=build/procure; [ -x $$program ] || { program=build/try/procure; [ -x $$program ] || tools/try || exit 1; }; \
+	$$program desk crates/procure/data/office.toml < crates/procure/stdin
 
 build:
 	tools/build
@@ -39,7 +40,7 @@ check:
 	@tools/check
 
 docs:
-	@tools/reading && tools/index && tools/calls
+	@tools/reading && tools/lists
 
 pictures:
 	@tools/pictures
@@ -54,4 +55,4 @@ release:
 	@tools/release
 
 bench: build
-	bench/desk
+	bench/serve

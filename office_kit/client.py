@@ -288,8 +288,6 @@ class Client(Generic[Told]):
         return self.query("clerk", f"/tenderers?after={after}" if after else "/tenderers")
 
 
-# The names of the methods that are commands and queries: as many as docs/API.md has routes.
+# The names of the methods that are commands.
 COMMANDS = ("import_budget", "register", "publish", "amend_notice", "cancel", "open", "examine", "award", "fail", "sign", "amend_contract", "pay", "end",
             "present", "modify", "withdraw")
-QUERIES = ("line", "ledger", "releases", "record", "minutes", "tender_register", "tender", "security", "performance_security",
-           "notices", "terms", "own_tenders", "evaluation", "securities", "tenderers", "contract_seen")

@@ -177,7 +177,7 @@ def listens(port: int) -> bool:
 
 def wait_for(process: "subprocess.Popen[Any]", port: int) -> None:
     """Waits until a server listens. If it ends before, this fails at once, with its error output if that is a pipe. (pytest shows what goes elsewhere.)"""
-    if not until(lambda: process.poll() is not None or listens(port), 60):
+    if not until(lambda: process.poll() is not None or listens(port), 240):
         fail(f"{process.args!r} doesn't listen")
     if process.returncode is not None:
         fail(f"the program ended with status {process.returncode} before it listened: {process.stderr.read() if process.stderr else process.args!r}")

@@ -1,8 +1,7 @@
-"""The parts that the measures of bench/ share: options, offices whose processor time is read, rows by SQLite, and runs of `procure desk` over one input."""
+"""The parts that the measures of bench/ share: options, offices whose processor time is read, and rows by SQLite."""
 import argparse
 import contextlib
 import os
-import shlex
 import sqlite3
 import statistics
 import subprocess
@@ -12,30 +11,24 @@ from collections.abc import Iterator, Sequence
 from pathlib import Path
 from typing import Any
 
-from office_kit.client import Client, Port, Requests, tender
-from office_kit.common import CONFIG, OK, add_program, block, check, fail, look, options_of, parts_of, peak, running, timed_exchange, what_came
-from office_kit.store import pages
+from office_kit.client import Client, Port, Requests
+from office_kit.common import CONFIG, OK, add_program, block, check, exchange, fail, look, options_of, parts_of, running, timed_exchange
 from office_kit.store.served import server
 
 # The requests of measures, as bytes.
 OFFICE = Client(Requests())
 # A program that uses no processor for so many seconds waits for input.
 QUIET = 0.02
-# The option of a measure that tries files of several page sizes, one after the other.
-PAGE_SIZES = (str(pages.NEW), "the page sizes of the files, each a power of two from 512 to 65536")
 
 
 # ---- Options.
 
-def options_with(text: str | None, beside: bool = False, **numbers: tuple[int | str, str]) -> argparse.ArgumentParser:
-    """A reader of the command line: of the program, and of numbers, each with its default and its meaning. A text is the default of several numbers. With
-    `beside` another program can be named too."""
+def options_with(text: str | None, **numbers: tuple[int | str, str]) -> argparse.ArgumentParser:
+    """A reader of the command line: of the program, and of numbers, each with its default and its meaning. A text is the default of several numbers."""
     options = options_of(text)
     for name, (default, meaning) in numbers.items():
         flag = f"--{name.replace('_', '-')}"
         options.add_argument(flag, type=int if isinstance(default, int) else counts_of, default=default, help=f"{meaning} ({default})")
-    if beside:
-        options.add_argument("--beside", type=shlex.split, metavar="CMD", help="another program's command line")
     add_program(options)
     return options
 
@@ -45,11 +38,6 @@ def counts_of(text: str) -> list[int]:
 
 
 # ---- Offices.
-
-def presented(number: int, tenderer: int) -> bytes:
-    """A tender with a security, for the first lot of a notice."""
-    return OFFICE.present(f"T{tenderer}", f"N{number}", "L1", tender((3, 200)), "G1", 50)
-
 
 class Office:
     """An office that accepts each request, or else the measure fails. `moment` is that of the next requests, if the office is in memory."""
@@ -93,12 +81,6 @@ class InFile(Office):
             timed_exchange(self.port, text)
 
 
-def wait_for_answer(process: "subprocess.Popen[bytes]", port: int) -> None:
-    while not what_came(port, look(b"/lines/none")):
-        check_runs(process)
-        time.sleep(0.01)
-
-
 def check_runs(process: "subprocess.Popen[bytes]") -> None:
     if process.poll() is not None:
         fail(f"the program ended with status {process.returncode}")
@@ -109,7 +91,7 @@ def in_file(program: str, file: str, **how: Any) -> Iterator[InFile]:
     """An office over a file, which holds everything in the end, without a log. `how` is for `subprocess.Popen`."""
     begun = time.perf_counter()
     with server(program, file, **how) as (process, port):
-        wait_for_answer(process, port)
+        exchange(port, look(b"/lines/none"))
         yield InFile(process, port, time.perf_counter() - begun)
         check_runs(process)
     settle(file)
@@ -160,15 +142,10 @@ def check_answers(program: str, output: bytes, count: int) -> None:
 # ---- Files.
 
 @contextlib.contextmanager
-def new_file(size: int | None = pages.NEW) -> Iterator[str]:
-    """The path of an office's file that doesn't exist yet, in a folder of its own. Its pages will have this size, or any."""
+def new_file() -> Iterator[str]:
+    """The path of an office's file that doesn't exist yet, in a folder of its own."""
     with tempfile.TemporaryDirectory(prefix="office-") as folder:
-        file = os.path.join(folder, "office.db")
-        if size:
-            pages.begin(file, size)
-        yield file
-        if size:
-            pages.check_size(file, size)
+        yield os.path.join(folder, "office.db")
 
 
 @contextlib.contextmanager
@@ -204,61 +181,3 @@ class Table:
 
 def medians(runs: Sequence[dict[str, float]]) -> dict[str, float]:
     return {what: statistics.median(run[what] for run in runs) for what in runs[0]}
-
-
-def run_over(command: Sequence[str], path: str, count: int) -> tuple[float, int]:
-    """The seconds and the peak memory in KiB of a program over an input of so many requests."""
-    output, memory, start = bytearray(), 0, time.perf_counter()
-    with open(path, "rb") as source, running(command, stdin=source, stdout=subprocess.PIPE) as process:
-        assert process.stdout
-        while chunk := os.read(process.stdout.fileno(), 1 << 16):
-            output += chunk
-            memory = peak(process, memory)
-        if process.wait():
-            fail(f"{command[0]} ended with status {process.returncode}")
-        seconds = time.perf_counter() - start
-    check_answers(command[0], bytes(output), count)
-    return seconds, memory
-
-
-def tell_one_input(choice: argparse.Namespace, blocks: Sequence[bytes]) -> float:
-    """Runs the program over these blocks as one input, in turn with the one beside it, if there is one. Prints the median of their seconds and their peak
-    memory. Returns our memory in MiB."""
-    commands = {f"{len(blocks)} requests as one input": [choice.program, "desk", CONFIG]}
-    if choice.beside:
-        commands["the other program"] = choice.beside
-    runs: dict[str, list[tuple[float, int]]] = {name: [] for name in commands}
-    with tempfile.NamedTemporaryFile() as file:
-        file.writelines(blocks)
-        file.flush()
-        for _ in range(choice.rounds):
-            for name, command in commands.items():
-                runs[name].append(run_over(command, file.name, len(blocks)))
-    table = Table()
-    for name, found in runs.items():
-        seconds, memory = zip(*found)
-        table.add(name, {"seconds": statistics.median(seconds), "peak memory, MiB": max(memory) / 1024})
-    return table.first["peak memory, MiB"]
-
-
-# ---- Phases: each has a kind, a moment, and requests.
-
-Phase = tuple[str, str, Sequence[bytes]]
-
-
-def run_in_memory(program: str, phases: Sequence[Phase]) -> dict[str, float]:
-    """Sends the requests phase by phase. For each kind: the processor time of a request, and that of the last tenth to that of the first."""
-    found: dict[str, float] = {}
-    with in_memory(program) as office:
-        for kind, moment, texts in phases:
-            office.moment, before = moment, office.used()
-            growth = office.growth(texts)
-            found |= {f"{kind}, microseconds": (office.used() - before) / len(texts) * 1e6, f"{kind}, last tenth to first": growth}
-    return found
-
-
-def tell_phases(choice: argparse.Namespace, phases: Sequence[Phase]) -> tuple[dict[str, float], float]:
-    """Runs the phases in memory, so many rounds, and then all of them as one input. Returns the figures and the peak memory in MiB."""
-    figures = medians([run_in_memory(choice.program, phases) for _ in range(choice.rounds)])
-    Table().add("in memory", figures)
-    return figures, tell_one_input(choice, [block(moment.encode(), text) for _, moment, texts in phases for text in texts])

@@ -12,7 +12,7 @@ TOOLS = {"curl": "curl", "sqlite3": "sqlite3", "cc": "gcc", "nginx": "nginx", "c
          "node": "nodejs", "pyflakes3": "pyflakes3", "shellcheck": "shellcheck", "mypy": "mypy", "mandoc": "mandoc", "readelf": "binutils", "dpkg-deb": "dpkg",
          "valgrind": "valgrind", "rsync": "rsync", "lintian": "lintian", "dh": "debhelper", "pycodestyle": "pycodestyle", "vulture": "vulture",
          "codespell": "codespell", "tsc": "node-typescript", "ip": "iproute2", "unshare": "util-linux", "jq": "jq", "xxd": "xxd",
-         "lslocks": "util-linux", "git": "git", "htpasswd": "apache2-utils"}
+         "lslocks": "util-linux", "git": "git", "htpasswd": "apache2-utils", "lowdown": "lowdown"}
 # Modules of Python.
 MODULES = {"pytest": "python3-pytest", "xdist": "python3-pytest-xdist", "pytest_timeout": "python3-pytest-timeout", "jsonschema": "python3-jsonschema",
            "yaml": "python3-yaml", "hypothesis": "python3-hypothesis"}

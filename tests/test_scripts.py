@@ -13,9 +13,8 @@ from office_kit.docs import documents
 DOCUMENTS = " ".join(path for path in documents.documents() if path != "README.md")
 # The scripts: a group, a name, and the command line.
 SCRIPTS = [(0, "documents", f"tools/check_docs {DOCUMENTS}"), (1, "copies", "bench/copies 20 --kills 5"), (2, "lint", "tools/lint"),
-           (3, "reading", "tools/reading --check"), (3, "pictures", "tools/pictures --check"), (3, "names", "tools/check_names"),
-           (3, "promises", "tools/check_promises"), (3, "crates", "tools/check_crates"), (3, "lengths", "tools/check_lengths"),
-           (3, "words", "tools/check_words")]
+           (3, "reading", "tools/reading --check"), (3, "pictures", "tools/pictures --check"), (3, "promises", "tools/check_promises"),
+           (3, "crates", "tools/check_crates"), (3, "lengths", "tools/check_lengths"), (3, "words", "tools/check_words")]
 
 
 @pytest.mark.parametrize("words", [pytest.param(line.split(), id=name, marks=pytest.mark.xdist_group(f"scripts-{group}")) for group, name, line in SCRIPTS])

@@ -119,7 +119,8 @@ function tendersALot(lots) {
   const rows = counted.map((count, at) => ({ name: say(at === MOST ? "see.chart.tenders.more" : "see.chart.tenders.count", { count: at }),
     parts: [{ kind: "count", amount: count }], told: number(count) }));
   const told = say("see.chart.tenders.what", { count: opened.length, one: counted[1], none: counted[0] });
-  return card(say("see.chart.tenders"), element("p", {}, told), bars(say("see.chart.tenders"), rows));
+  return opened.length === 0 ? card(say("see.chart.tenders"), element("p", {}, say("see.firms.none")))
+    : card(say("see.chart.tenders"), element("p", {}, told), bars(say("see.chart.tenders"), rows));
 }
 
 /** The days from a notice's publication to the signing of each of its contracts. */
@@ -130,13 +131,16 @@ function daysToContract(notices, contracts) {
 }
 
 function timeToContract(days) {
+  if (days.length === 0) {
+    return card(say("see.chart.days"), element("p", {}, say("see.chart.days.none")));
+  }
   const rows = DAYS.map((most, at) => {
     const count = days.filter((one) => one <= most && one > (DAYS[at - 1] ?? -1)).length;
     const least = at === 0 ? 0 : DAYS[at - 1] + 1;
     const name = most === Infinity ? say("see.chart.days.more", { most: least - 1 }) : say("see.chart.days.most", { least, most });
     return { name, parts: [{ kind: "count", amount: count }], told: number(count) };
   });
-  const middle = days.length === 0 ? "–" : say("see.days", { count: days[Math.floor((days.length - 1) / 2)] });
+  const middle = say("see.days", { count: days[Math.floor((days.length - 1) / 2)] });
   return card(say("see.chart.days"), element("p", {}, say("see.chart.days.what", { count: days.length, middle })),
     bars(say("see.chart.days"), rows));
 }

@@ -3,7 +3,7 @@
 import { grouped, rows, sum, tables, worthNow } from "./common/data.js";
 import { bar, element, given, key, link, placeOf, section, title } from "./common/draw.js";
 import { entriesOf, finder, searchable } from "./common/filters.js";
-import { field, growing, table } from "./common/forms.js";
+import { field, growing } from "./common/forms.js";
 import { number } from "./common/money.js";
 import { ledger, line as lookAtLine, notices, officeNow, part } from "./common/office.js";
 import { POTS, pots } from "./common/pots.js";
@@ -63,18 +63,21 @@ export async function drawBudget() {
     element("p", {}, say("see.from"), " ", link("/ledger", "/ledger"))] };
 }
 
-function lotTable(lots, entries, currency) {
+async function lotTable(lots, entries, currency) {
+  const { growingTable } = await import("./common/many.js");
   const known = new Map(entries.map((one) => [one.notice, one]));
-  const cells = lots.filter(({ notice }) => known.has(notice)).map((lot) => {
+  const deadline = ({ notice }) => known.get(notice).deadline;
+  const own = lots.filter(({ notice }) => known.has(notice)).sort((one, other) => (deadline(one) > deadline(other) ? -1 : deadline(one) < deadline(other) ? 1 : 0));
+  const rowOf = (lot) => {
     const { title: text, state } = known.get(lot.notice);
-    const own = lot.status === "active" ? (lot.winner && state === "opened" ? "awarded" : state)
+    const now = lot.status === "active" ? (lot.winner && state === "opened" ? "awarded" : state)
       : lot.status === "complete" && lot.contract_status === "active" ? "running" : lot.status;
     const amount = (value) => (value === null ? "–" : number(value));
-    return [link(given(text), placeOf("notice", lot.notice)), [`${lot.lot} `, given(lot.title)], stateBadge(own),
+    return [link(given(text), placeOf("notice", lot.notice)), [`${lot.lot} `, given(lot.title)], stateBadge(now),
       amount(lot.estimate), amount(worthNow(lot) ?? lot.price), amount(lot.paid)];
-  });
-  return table(say("see.line.table", { currency }), [say("see.procurement"), say("see.lot.short"), say("see.state"), say("see.estimate"), say("see.worth"),
-    say("see.paid")], cells, { figures: [3, 4, 5] });
+  };
+  return growingTable(say("see.line.table", { count: own.length, currency }), [say("see.procurement"), say("see.lot.short"), say("see.state"), say("see.estimate"),
+    say("see.worth"), say("see.paid")], own, rowOf, { figures: [3, 4, 5] });
 }
 
 /** One budget line, and the lots that it pays for. */
@@ -82,7 +85,7 @@ export async function drawLine(name) {
   const [line, list, data] = await Promise.all([lookAtLine(part(name)), notices(), tables("notices", "lots", "payments")]);
   const own = (data?.lots ?? []).filter((lot) => lot.line === name);
   const told = `${say("see.line.of", { line: name })}: ${line.title}`;
-  const bought = own.length > 0 ? lotTable(own, entriesOf(list, data, officeNow()), own[0].currency)
+  const bought = own.length > 0 ? await lotTable(own, entriesOf(list, data, officeNow()), own[0].currency)
     : element("p", {}, say(data ? "see.line.nothing" : "see.nodata"));
   const lots = new Set(own.map(({ notice, lot }) => `${notice}/${lot}`));
   const payments = (data?.payments ?? []).filter(({ notice, lot }) => lots.has(`${notice}/${lot}`));

@@ -246,7 +246,7 @@ def use_key(desk: Desk, key: str) -> None:
 def life(scene: Scene) -> None:
     """A procurement from the budget to the last payment, by the desk's screens; the tenders come by scripts."""
     desk = Desk(scene)
-    desk.go("today", picture="today-empty")
+    desk.go("today", says="Begin with a budget file, under “Budget”.", picture="today-empty")
     desk.go("key")
     desk.fill({"Your name": "Anna"})
     use_key(desk, "wrong")

@@ -175,8 +175,10 @@ def city(scene: Scene) -> None:
 
 
 def on_paper(scene: Scene) -> None:
-    """On paper, a view has no menus and buttons. Folded parts are printed. The page prints its address and the time."""
-    page = page_of(scene, "#notice/N1")
+    """On paper, a view has no menus and buttons. Folded parts are printed. The page prints its address and the time by the server's clock."""
+    page = page_of(scene, "")
+    page.ask("Page.addScriptToEvaluateOnNewDocument", source="Date.now = ((now) => () => now() - 9e11)(Date.now.bind(Date))")
+    page.go(scene.front.address("#notice/N1"))
     page.run("document.querySelector('main').append(Object.assign(document.createElement('details'), { textContent: 'folded' }))")
     assert printed_to(page, os.path.join(scene.pictures, "paid.pdf")) > 10_000
     page.ask("Emulation.setEmulatedMedia", media="print")
@@ -184,13 +186,12 @@ def on_paper(scene: Scene) -> None:
     shown = page.run("['header', 'nav', 'button', '.source', '#foot'].map((at) => Boolean(document.querySelector(at)?.checkVisibility()))")
     assert shown == [False, False, False, True, False]
     assert page.run("[...document.querySelectorAll('details')].every((at) => at.open)"), "what is folded is unfolded"
-    rows = "[...document.querySelectorAll('main tr, .timeline li')]"
-    assert page.run(f"{rows}.filter((at) => getComputedStyle(at).breakInside !== 'avoid').length") == 0, "rows may be broken"
+    assert page.run("[...document.querySelectorAll('main tr, .timeline li')].every((at) => getComputedStyle(at).breakInside === 'avoid')"), "rows may be broken"
+    assert page.run("[...document.querySelectorAll('.card')].every((at) => at.getBoundingClientRect().right < innerWidth)"), "a frame is cut"
     told = texts_of(page, ".source")[0]
-    assert scene.front.address("#notice/N1") in told and " at " in told
+    assert scene.front.address("#notice/N1") in told and " at " in told and " 199" not in told, told
     page.run("dispatchEvent(new Event('afterprint'))")
     assert page.run("[...document.querySelectorAll('details')].some((at) => !at.open)"), "and folded again"
-    page.ask("Emulation.setEmulatedMedia", media="")
     is_quiet(page)
 
 
@@ -206,6 +207,9 @@ def without_mirror(scene: Scene) -> None:
     page.go(scene.front.address("#ledger"))
     page.wait("[...document.querySelectorAll('.lines h3')].every((at) => at.textContent.includes(': '))")
     assert "Budget line 1100: Roads and bridges" in page.text()
+    page.answer_for({f"/data/{name}.csv": (200, table(name, []).encode()) for name in ("notices", "lots", "contracts", "payments", "budget")})
+    page.go(scene.front.address("#figures"))
+    assert [it for it in ("Nothing has been paid", "No tender has been opened", "No contract has been signed") if f"{it} yet." not in page.text()] == []
     is_quiet(page)
 
 

@@ -123,11 +123,12 @@ def lists_faults(_: Scene, desk: Desk) -> None:
     """The button lists all faults, and each leads to its field. That of a price is below its row, over the whole width."""
     desk.at("offer/N1/L1", "Tender for")
     desk.fill("unit-1", "x")
+    desk.fill("security-amount", "6.000")
     desk.press("Check before submitting", "things are missing or wrong:")
     names = {"Unit price of I1": "unit-0", "Unit price of I2": "unit-1", "Reference of the security": "security-reference", "Amount": "security-amount"}
     listed = texts_of(desk.page, ".bad li")
     assert desk.page.run("[document.activeElement.className, document.getElementById('unit-1-wrong').colSpan]") == ["bad", 5]
-    assert len(listed) == len(names) and "I2 Use digits only." in listed[1], listed
+    assert len(listed) == len(names) and "I2 Use digits only." in listed[1] and "no point and no comma" in listed[3], listed
     for name, field in names.items():
         desk.press(name)
         assert desk.page.run("document.activeElement.id") == field, name

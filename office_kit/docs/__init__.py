@@ -1,1 +1,1 @@
-"""What scripts read in documents and sources, and what they make of them: blocks, links, definitions, contracts, drawings, pages, releases."""
+"""The parts that read documents and sources, and make others of them: blocks, links, definitions, contracts, drawings, pages, releases."""

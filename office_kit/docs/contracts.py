@@ -1,6 +1,6 @@
 """The functions of crates/*/src/**/*.rt: their owners, their doc comments, and the clauses of their contracts.
 
-Used by tools/calls, office_kit/docs/reached.py and tools/check_promises.
+Used by tools/lists, office_kit/docs/reached.py and tools/check_promises.
 """
 import re
 from collections.abc import Iterable, Sequence

@@ -1,6 +1,6 @@
 """The definitions of crates/*/specs/**/*.antt: their comments, their lines, the names that each uses, and where an imported name comes from.
 
-Used by tools/index and office_kit/docs/reached.py; tools/calls and tools/check_promises take ROOT and Fault from here.
+Used by tools/lists and office_kit/docs/reached.py; tools/check_promises takes ROOT and Fault from here.
 """
 import re
 from collections.abc import Iterable, Iterator, Mapping

@@ -4,12 +4,12 @@ A block fenced as ```sh run is run. If the next block of the document is fenced 
 a document run in turn in one bash, in an empty folder, with `procure`, `procure-backup`, `procure-check`, `audit` and `check_tender` on the PATH. Each must end
 with status 0. curl shows no meter there. Programs that a document leaves running are ended after its last block.
 """
+import contextlib
 import difflib
 import functools
 import json
 import os
 import re
-import select
 import shutil
 import signal
 import subprocess
@@ -24,7 +24,7 @@ from office_kit.needs import TOOLS
 
 # The commands besides `procure` that blocks find on the PATH.
 COMMANDS = {"procure-backup": "deploy/backup.sh", "procure-check": "deploy/check", "audit": "tools/audit", "check_tender": "tools/check_tender"}
-# The seconds that a block may take.
+# The seconds that a block may take, in the mean.
 PATIENCE = 60
 SKIPPED = {".git", "build", "out"}
 # The documents that scripts make of comments and figures.
@@ -95,36 +95,10 @@ def missing_tools(steps: Iterable[Step]) -> list[str]:
     return [tool for tool in TOOLS if re.search(rf"(?<![\w./-]){tool}(?![\w./-])", text) and not shutil.which(tool)]
 
 
-class Shell:
-    """A bash in an empty folder of its own, to which blocks are given one after another."""
-
-    def __init__(self, folder: Path, program: str) -> None:
-        home, self.tools = folder / "home", folder / "tools"
-        home.mkdir()
-        self.tools.mkdir()
-        for name, place in {"procure": program, **COMMANDS}.items():
-            (self.tools / name).symlink_to(os.path.join(ROOT, place))
-        (self.tools / ".curlrc").write_text("no-progress-meter\n")
-        places = {"PATH": f"{self.tools}:{os.environ['PATH']}", "CURL_HOME": str(self.tools), "LC_ALL": "C.UTF-8"}
-        self.process = subprocess.Popen(["bash", "--noprofile", "--norc"], cwd=home, env={**os.environ, **places}, start_new_session=True,
-                                        stdin=subprocess.PIPE, stdout=subprocess.PIPE, stderr=subprocess.DEVNULL, text=True)
-
-    def run(self, step: Step) -> tuple[str, str]:
-        """The output of a block, and its status, which is empty if the block took too long or ended the shell."""
-        assert self.process.stdin and self.process.stdout
-        block, out = self.tools / f"block{step.line}", self.tools / f"out{step.line}"
-        block.write_text(step.text + "\n")
-        self.process.stdin.write(f". {block} >{out} 2>&1 </dev/null; echo $?\n")
-        self.process.stdin.flush()
-        in_time, _, _ = select.select([self.process.stdout], [], [], PATIENCE)
-        status = self.process.stdout.readline().strip() if in_time else ""
-        return out.read_text(encoding="utf-8", errors="replace"), status
-
-
 def check_run(path: str, step: Step, told: str, status: str) -> None:
     """Checks that a block ended with status 0, and printed the output in the document."""
     if status != "0":
-        how = f"ended with status {status}" if status else f"ended the shell, or took more than {PATIENCE} seconds"
+        how = f"ended with status {status}" if status else "ended the shell, or took too long"
         output = ":\n" + textwrap.indent(told.rstrip(), "    ") if told.strip() else " nothing"
         raise Wrong(path, step.line, f"the block {how}; it printed{output}")
     printed, shown = (text.rstrip("\n").split("\n") for text in (told, step.shown or ""))
@@ -134,16 +108,27 @@ def check_run(path: str, step: Step, told: str, status: str) -> None:
 
 
 def run_steps(path: str, steps: Sequence[Step], program: str) -> int:
-    """Runs the blocks of a document, and says how many outputs were compared."""
+    """Runs the blocks of a document, up to the first that fails, and says how many outputs were compared."""
     with tempfile.TemporaryDirectory(prefix="office-docs-") as folder:
-        shell = Shell(Path(folder), program)
-        try:
-            for step in steps:
-                check_run(path, step, *shell.run(step))
-        finally:
-            # (With all that the blocks left running.)
-            os.killpg(shell.process.pid, signal.SIGKILL)
-            shell.process.communicate()
+        home, tools = Path(folder, "home"), Path(folder, "tools")
+        home.mkdir()
+        tools.mkdir()
+        for name, place in {"procure": program, **COMMANDS}.items():
+            (tools / name).symlink_to(os.path.join(ROOT, place))
+        (tools / ".curlrc").write_text("no-progress-meter\n")
+        for step in steps:
+            (tools / f"block{step.line}").write_text(step.text + "\n")
+        lines = [f". {tools}/block{it.line} >{tools}/out{it.line} 2>&1 </dev/null; ended=$?; echo $ended; [ $ended = 0 ] || exit" for it in steps]
+        places = {"PATH": f"{tools}:{os.environ['PATH']}", "CURL_HOME": str(tools), "LC_ALL": "C.UTF-8"}
+        shell = subprocess.Popen(["bash", "--noprofile", "--norc", "-c", "\n".join(lines)], cwd=home, env={**os.environ, **places}, start_new_session=True,
+                                 stdout=subprocess.PIPE, stderr=subprocess.DEVNULL, text=True)
+        with contextlib.suppress(subprocess.TimeoutExpired):
+            shell.wait(PATIENCE * len(steps))
+        # (With all that the blocks left running.)
+        with contextlib.suppress(ProcessLookupError):
+            os.killpg(shell.pid, signal.SIGKILL)
+        for step, status in zip(steps, [*shell.communicate()[0].split(), ""]):
+            check_run(path, step, (tools / f"out{step.line}").read_text(encoding="utf-8", errors="replace"), status)
     return sum(step.shown is not None for step in steps)
 
 

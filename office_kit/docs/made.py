@@ -1,4 +1,4 @@
-"""Documents that scripts make: how each is written, compared, and reported. Read by tools/calls, tools/index and tools/reading."""
+"""Documents that scripts make: how each is written, compared, and reported. Read by tools/lists and tools/reading."""
 import difflib
 import itertools
 import os
@@ -28,15 +28,15 @@ def opening(text: str) -> list[str]:
     return [title, ""] + [line for paragraph in paragraphs for line in [*wrapped(paragraph), ""]]
 
 
-def put(name: str, wanted: str, said: str, is_check: bool, by: str = "make docs") -> int:
-    """Writes a document that `by` makes, or says whether it is current; the exit status."""
+def put(name: str, wanted: str, said: str, is_check: bool) -> int:
+    """Writes a document, or says whether it is current; the exit status."""
     path = ROOT / name
     if not is_check:
         path.parent.mkdir(parents=True, exist_ok=True)
         path.write_text(wanted, encoding="utf-8")
     elif (had := text_of(path) if path.is_file() else "") != wanted:
         different = difflib.unified_diff(had.splitlines(), wanted.splitlines(), name, "made of the sources", n=0, lineterm="")
-        print(f"{name}: not what is made of the sources; `{by}` makes it again", *itertools.islice(different, MOST), sep="\n")
+        print(f"{name}: not what is made of the sources; `make docs` makes it again", *itertools.islice(different, MOST), sep="\n")
         return 1
     print(f"{said}: {name} is {'current' if is_check else 'written'}")
     return 0

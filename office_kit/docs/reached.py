@@ -1,6 +1,6 @@
 """Finds the definitions that a reader must believe for the promises: those that the clauses use, directly or through others.
 
-Used by tools/reading and tools/check_names. A variable that has the name of such a definition counts as it.
+Used by tools/reading. A variable that has the name of such a definition counts as it.
 """
 from collections import defaultdict
 from collections.abc import Iterable, Mapping, Sequence

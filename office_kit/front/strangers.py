@@ -16,6 +16,7 @@ import asyncio
 import contextlib
 import itertools
 import json
+import os
 import random
 import re
 import ssl
@@ -158,11 +159,16 @@ class Strangers:
     def health(self) -> Iterator[Coroutine[None, None, None]]:
         yield from (self.once("monitor", f"127.0.6.{number}", HEALTH[0]) for number in range(1, 12))
 
+    async def shares(self) -> None:
+        """Until shortly before they begin, they come before other programs, so that all of them are connected by then. Now they don't any more."""
+        await asyncio.sleep(self.begin - 0.2 - time.time())
+        os.sched_setscheduler(0, os.SCHED_OTHER, os.sched_param(0))
+
     async def run(self, kind: str, end: float) -> None:
         kinds = {"crowd": self.crowd, "eager": self.eager, "neighbour": self.neighbour, "rival": self.rival, "citizens": self.citizens, "health": self.health}
         with contextlib.suppress(TimeoutError):
             async with asyncio.timeout(end - time.time()), asyncio.TaskGroup() as group:
-                for task in kinds[kind]():
+                for task in (self.shares(), *kinds[kind]()):
                     group.create_task(task)
 
 

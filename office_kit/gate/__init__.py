@@ -1,1 +1,1 @@
-"""What belongs to the gate: the list of crates, the transcripts, how many checks run side by side, and what rt says of mutants."""
+"""The parts of the gate: the list of crates, the transcripts, the number of checks side by side, and the results of mutants in the lines of rt."""

@@ -46,28 +46,25 @@ def import_lines(client: Client[Answer], many: int) -> None:
         client.import_budget(f"B{first}", budget(*(f"{name},add,1000000000,Line {name}" for name in names)))
 
 
-def examine_all(client: Client[Answer], **lots: int) -> None:
-    """Publishes notices with so many lots of the first line, each with one tender, and examines all tenders. It waits for the deadline."""
-    deadline = int(time.time()) + AHEAD
-    every = [(name, f"L{number}") for name, count in lots.items() for number in range(1, count + 1)]
-    for name in lots:
-        client.publish(name, notice(text_of(deadline), *(lot(it, line_of(0), 2 * AMOUNT) for of, it in every if of == name)))
-    for name, lot_name in every:
-        client.present("T0", name, lot_name, tender((3, AMOUNT // 3)))
-    wait_until(deadline + 1.05)
-    for name in lots:
-        client.open(name)
-    for receipt in range(1, len(every) + 1):
-        client.examine(receipt)
-
-
 def make_contracts(program: str, file: str, many: int, lines: int = IMPORT, **others: int) -> None:
-    """So many contracts after the first one, on so many lines. Other notices have so many lots of the first line, which no award has decided yet."""
+    """So many contracts after the first one, on so many lines. Other notices have so many lots of the first line, each with one tender that is examined, and
+    which no award has decided yet. It waits for the deadline."""
+    notices = {"N0": 1, **others}
+    every = [(name, f"L{number}") for name, count in notices.items() for number in range(1, count + 1)]
     with in_file(program, file) as office:
         client = office.client
         import_lines(client, lines)
         client.register("T0")
-        examine_all(client, N0=1, **others)
+        deadline = int(time.time()) + AHEAD
+        for name in notices:
+            client.publish(name, notice(text_of(deadline), *(lot(it, line_of(0), 2 * AMOUNT) for of, it in every if of == name)))
+        for name, lot_name in every:
+            client.present("T0", name, lot_name, tender((3, AMOUNT // 3)))
+        wait_until(deadline + 1.05)
+        for name in notices:
+            client.open(name)
+        for receipt in range(1, len(every) + 1):
+            client.examine(receipt)
         client.award("N0")
         client.sign(1)
         for entry in ("P1", "P2"):

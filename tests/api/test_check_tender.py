@@ -118,15 +118,9 @@ def test_table_of_forms(trial):
     assert is_right(table_of_forms(), trial.reader)
 
 
-@pytest.mark.parametrize("change", [
-    lambda name, spans, outcome, *more: [(name, spans, "unreadable"), *more],
-    lambda name, spans, outcome, *more: [(name, ["I1,3,150,451"], outcome), *more],
-    lambda name, spans, outcome, *more: [*more],
-    lambda name, spans, outcome, *more: [(name, spans, outcome), *more, ("a stone", [], outcome)],
-], ids=["another_outcome", "another_line", "a_row_less", "a_row_more"])
-def test_wrong_table(trial, change):
-    first, *more = table_of_forms()
-    assert not is_right(change(*first, *more), trial.reader)
+def test_wrong_table(trial):
+    (name, spans, _), *more = table_of_forms()
+    assert not is_right([(name, spans, "unreadable"), *more], trial.reader)
 
 
 # ---- The tool as a program: the file to fill in, wrong arguments, and items that don't exist.

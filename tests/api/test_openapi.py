@@ -26,8 +26,6 @@ OF_ANY = {"BadHead", "TooLong", "Coding", "NoRoute", "BadKey", "Forbidden", "Una
 # Changes that make a copy of the document invalid OpenAPI 3.1.
 PLANTS = {
     "its version is another": lambda tree: tree.update(openapi="3.0.3"),
-    "an operation has a field of another version": lambda tree: award_of(tree).update(consumes=["application/json"]),
-    "a parameter of a path may be left out": lambda tree: next(it for it in tree["components"]["parameters"].values() if it["in"] == "path").pop("required"),
     "a path has a parameter that nothing declares": lambda tree: tree["paths"].update({"/ledger/{year}": tree["paths"].pop("/ledger")}),
     "a reference leads nowhere": lambda tree: award_of(tree)["responses"].update({"410": {"$ref": "#/components/responses/Gone"}}),
 }

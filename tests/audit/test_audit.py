@@ -348,12 +348,6 @@ def test_notice_that_isn_t_answered(made):
         assert ("kept_notices_are_answered", "notices N5") in made.found("office.db", "--base", front.address)
 
 
-def test_the_front_sees_haste(made):
-    with Front(str(made.folder / "answers"), burst=1) as front:
-        assert [audit_answers.Answers(None, front.address).exchange("/ledger")[0] for _ in range(3)] == [200, 429, 429]
-    assert front.hasty == 1
-
-
 @pytest.mark.parametrize("text, due", [("7", 7), (" 0 ", 0), ("Thu, 01 Jan 1970 00:01:40 GMT", 40), ("Thu, 01 Jan 1970 00:00:10 GMT", 0), (None, 4),
                                        ("soon", 4), ("-5", 4)])
 def test_retry_after(text, due):

@@ -60,6 +60,7 @@ PLANTS = [
     ("office_kit/mirror/tables.py", "(r\"(^|[,;\\t|])('*)", "(r\"(^)('*)", "tables"),
     ("tools/mirror", "if os.path.isdir(folder) and os.listdir(folder) and not kept.state:", "if False:", "strange"),
     ("tools/mirror", "words != kept.state.get(\"words\")", "False", "pages"),
+    ("tools/mirror", "again or fresh", "fresh", "pages"),
     ("tools/mirror", "last <= row[\"deadline\"] <= moment", "False", "waiting"),
     ("tools/mirror", " or not is_whole(kept)", "", "first_and_next"),
     ("tools/mirror", "            for file, size in zip(files.values(), sizes):\n                file.copy(size)\n", "", "first_and_next"),
@@ -279,6 +280,11 @@ def is_page(copy, name):
 
 
 def test_pages(copy):
+    copy.office.changes = {"/notices": lambda *_: (200, b'{"next":null,"notices":[]}')}
+    copy.run(0)
+    copy.run(0, "--base", READERS)
+    assert READERS in copy.text("robots.txt"), "also before anything is published"
+    copy.office.changes.clear()
     copy.run_later()
     copy.run(0, "--base", READERS)
     assert sorted(copy.places("sitemap.xml")) == sorted(f"{READERS}/data/{page}" for page in PAGES)
@@ -722,10 +728,6 @@ def wrong(copy, tmp_path):
     copy_into(folder := tmp_path / "wrong", "office_kit", "tools", "web/common")
     copy.script = folder / "tools" / "mirror"
     return folder
-
-
-def test_nothing_planted(copy, wrong):
-    test_first_and_next(copy)
 
 
 @pytest.mark.parametrize("path, old, new, name", PLANTS, ids=[f"{name}-{at}" for at, (*_, name) in enumerate(PLANTS)])

@@ -17,7 +17,7 @@ from office_kit.desks import modules
 from office_kit.docs.help_pages import pages, sections_of
 from office_kit.mirror.tables import guarded, table
 
-pytestmark = pytest.mark.needs("node")
+pytestmark = pytest.mark.needs("node", "lowdown")
 NAMES = ("common/findings common/data common/days common/money common/texts common/zone list figures tender/search tender/session clerk/budget "
          "clerk/convert clerk/notice clerk/values clerk/stage")
 # The most bytes that each page may load at once; the most bytes of all modules with the texts of one language, by gzip; the most lines of a module.

@@ -17,10 +17,10 @@ from office_kit.common import ROOT, copy_into, stand_in
 from office_kit.docs import documents, help_pages
 from office_kit.docs.releases import logic_of, newest_entry
 
-pytestmark = pytest.mark.needs("dh", "dpkg-deb", "lintian", "mandoc", "readelf")
+pytestmark = pytest.mark.needs("dh", "dpkg-deb", "lintian", "lowdown", "mandoc", "readelf")
 SOURCES = ("tools", "office_kit", "debian", "docs", "deploy", "web", "README.md", "CHANGELOG.md", "crates.txt")
 # Of the entries of CHANGELOG.md after the newest one.
-FINAL = "d53f26a937013472"
+FINAL = "f91e4b8805c34e36"
 # A line of a script that starts a service, or has it started.
 STARTS = re.compile(r"(?m)^[^#]*\b(systemctl|invoke-rc\.d|service)\b.*\b(start|restart|enable)\b")
 # Lines that a link in a package's document may have, with a link of which each but the last leads to nothing.
@@ -241,14 +241,6 @@ def test_lintian(made):
     assert said_of(made.package) == ""
 
 
-def test_lintian_finds_symbols(program, tree, tmp_path):
-    """Without the words about them."""
-    (tree / "usr/share/lintian/overrides/procure").unlink()
-    run("dpkg-deb", "--root-owner-group", "--build", tree, tmp_path / "procure_1_amd64.deb", check=True)
-    is_whole = re.search(r"\.symtab\b", run("readelf", "-S", "--wide", program).stdout)
-    assert ("unstripped-binary-or-object" in said_of(tmp_path / "procure_1_amd64.deb")) == bool(is_whole)
-
-
 @pytest.mark.parametrize("is_right", [True, False], ids=["as_it_is", "without_rm"])
 @pytest.mark.parametrize("word", ["remove", "purge"])
 def test_removal(made, tmp_path, is_right, word):
@@ -421,15 +413,6 @@ def test_planted_links(tree):
     assert found and all("STYLE.md" in it for it in found)
     (at / "README.Debian").write_text((at / "README.Debian").read_text().replace("procure-check", "procure-looks"))
     assert wrong_places(tree) == ["/usr/sbin/procure-looks"]
-
-
-def test_links_as_in_the_checkout(program, copy):
-    """They lead to nothing in a release."""
-    path = copy / "office_kit/docs/releases.py"
-    path.write_text(path.read_text().replace("(texts.get(path, data), mode)", "(data, mode)"))
-    (copy / "out").mkdir()
-    made = Made(program, copy / "out", copy)
-    assert any("../crates/" in it for top in (made.top, made.tree) for it in wrong_links(top))
 
 
 def test_two_releases_are_alike(made, program, tmp_path):

@@ -266,7 +266,7 @@ def test_front(trial):
     trial.front.mkdir()
     (trial.front / "version.conf").write_text(text, encoding="utf-8")
     (trial.front / "procure.conf").touch()
-    (trial.nginx / "nginx.conf").write_text("events {\n    worker_connections 4096;\n}\n", encoding="utf-8")
+    (trial.nginx / "nginx.conf").write_text("worker_rlimit_nofile 8192;\nevents {\n    worker_connections 4096;\n}\n", encoding="utf-8")
     trial.says(WARNING, "nginx has no front", "front", "--ways", "http://127.0.0.1:1")
     for place, is_link in ((enabled / "procure.conf", True), (enabled / "old", False)):
         place.symlink_to(trial.front / "procure.conf") if is_link else place.write_text("map $http_office_caller $a {}", encoding="utf-8")
@@ -276,10 +276,10 @@ def test_front(trial):
         trial.says(CRITICAL, "Connection refused", "front", "--ways", server.address)
         place.unlink()
     (enabled / "procure.conf").symlink_to(trial.front / "procure.conf")
-    for words, wanted in (("worker_connections 768;", WARNING), ("", WARNING), ("worker_connections 8192;", OK)):
-        (trial.nginx / "nginx.conf").write_text(f"events {{\n    {words}\n}}\n", encoding="utf-8")
+    for files, most, said in ((8192, 768, "connections .* is 768"), (8192, "", "connections .* is missing"), (1024, 4096, "file .* is 1024"), (9000, 9000, "")):
+        (trial.nginx / "nginx.conf").write_text(f"worker_rlimit_nofile {files};\nevents {{\n    worker_connections {most};\n}}\n", encoding="utf-8")
         with Answering(200, b"0.5.0 (ab12)\n", "/front-version") as server:
-            trial.says(wanted, "worker_connections .* is (768|512)" if wanted else "", "front", "--ways", server.address)
+            trial.says(WARNING if said else OK, said, "front", "--ways", server.address)
 
 
 def test_copy(trial):

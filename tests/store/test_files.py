@@ -227,9 +227,3 @@ def test_planted(folder, fault):
     folder.program = wrong(os.path.dirname(folder.program), script.replace("AT_ONCE", str(10 * AT_ONCE)), folder.program)
     with pytest.raises(AssertionError, match=re.escape(said)):
         globals()[name](folder, *case)
-
-
-def test_nothing_planted(folder):
-    """A program that leaves a new log without a page passes."""
-    folder.program = wrong(os.path.dirname(folder.program), 'PROGRAM "$@" && exit; : > "$3-wal"; exit 1', folder.program)
-    test_refused(folder, "no database: a text")

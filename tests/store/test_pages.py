@@ -6,6 +6,7 @@ At a path that names nothing the program puts one page, and then the tables. `sq
 import fcntl
 import functools
 import os
+import re
 import sqlite3
 import subprocess
 import time
@@ -15,7 +16,7 @@ from pathlib import Path
 import pytest
 
 from office_kit.client import Client, Port, budget
-from office_kit.common import CONFIG, made_shim, running
+from office_kit.common import CONFIG, made_shim, running, until
 from office_kit.store import pages
 from office_kit.store.files import EMPTY, REFUSED, copied, made_line, printed, sqlite, told, wrong
 from office_kit.store.served import served, server
@@ -119,7 +120,8 @@ def test_new_waits(folder):
     lock = os.open(folder.path, os.O_RDONLY)
     fcntl.flock(lock, fcntl.LOCK_EX)
     with running([folder.program, "ledger", CONFIG, folder.file], stdout=subprocess.DEVNULL, stderr=subprocess.DEVNULL) as started:
-        time.sleep(1)
+        # (Linux lists it as one that waits for a lock.)
+        assert until(lambda: re.search(rf"-> .* {started.pid} ", Path("/proc/locks").read_text()), LISTENS)
         assert started.poll() is None and not os.listdir(folder.path)
         os.close(lock)
         assert started.wait(LISTENS) == 0

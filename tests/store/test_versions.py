@@ -6,7 +6,7 @@ deadline, opened, awarded, signed, ended; four of them have tenders that were wi
 of other software beside them (beside.sql).
 
 Each row of each table is unchanged, except for notices: they are in `notices_2`, with no performance security required. Queries are answered as tools/audit
-computes it from the rows. If PROCURE_1 names a program of version 1, it must refuse a file that ours migrated.
+computes it from the rows.
 """
 import lzma
 import os
@@ -26,7 +26,6 @@ from office_kit.store.life import Life, key_of, offer, part
 from office_kit.store.served import Serving
 
 pytestmark = [pytest.mark.needs("sqlite3"), pytest.mark.time]
-EARLIER = os.environ.get("PROCURE_1")
 # Tables of others, and obstacles to version 2.
 BESIDE = statements_in("beside.sql")
 OTHERS, *IN_THE_WAY = BESIDE
@@ -174,11 +173,3 @@ def test_version_2_without_a_table(program, table, size, tmp_path):
     ledger_of(program, path)
     sqlite(path, f"DROP TABLE {table};")
     is_refused(program, path)
-
-
-if EARLIER:
-    def test_an_earlier_program(program, tmp_path):
-        path = made(tmp_path / "office.db", earliest()[0])
-        ledger = ledger_of(program, path)
-        is_refused(EARLIER, path)
-        assert ledger_of(program, path) == ledger

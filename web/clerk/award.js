@@ -4,7 +4,7 @@ import { share } from "../common/contract.js";
 import { isId } from "../common/csv.js";
 import { element, given, link, placeOf } from "../common/draw.js";
 import { DIGITS, ID, areRight, button, field, form, note, steps } from "../common/forms.js";
-import { money, number } from "../common/money.js";
+import { money } from "../common/money.js";
 import { line, officeNow } from "../common/office.js";
 import { say, sayParts } from "../common/texts.js";
 import { ofRelease, own } from "./fate.js";
@@ -144,9 +144,10 @@ function amountFault(amount, asked, currency) {
 function signOrder(notice, lot, named) {
   const { name, releases, currency } = notice;
   const { active } = lot;
-  const secured = named ? say("sign.held", { security: named.security, amount: number(named.amount) }) : say("sign.none");
+  const isSecured = notice.terms.lots.find(({ id }) => id === lot.id).security > 0;
+  const secured = named ? say("sign.held", { security: named.security, amount: money(named.amount, currency) }) : say("sign.none");
   return { kind: "sign", values: valuesOf(notice, lot), path: `/awards/${active.id}/sign`, body: named ? jsonBody(named) : null, isFinal: true,
-    says: [element("span", {}, sayParts("sign.does", ofAward(active, currency))), secured, say("sign.back")],
+    says: [element("span", {}, sayParts("sign.does", ofAward(active, currency))), secured, ...(isSecured ? [say("sign.back")] : [])],
     again: "AlreadyDecided", find: () => ofRelease(name, releases.length, own.sign(active.id)) };
 }
 

@@ -90,7 +90,7 @@ export default {
   "task.examine": ["Los {lot}: 1 Angebot prüfen", "Los {lot}: {count} Angebote prüfen"],
   "task.award": "Los {lot}: Zuschlag erteilen",
   "task.endlot": "Los {lot}: kein Angebot kann gewinnen. Los ohne Vertrag beenden",
-  "task.standstill": "Los {lot}: Die Wartefrist läuft bis {until}",
+  "task.standstill": "Los {lot}: Versenden Sie die Schreiben, falls noch nicht geschehen. Die Wartefrist läuft bis {until}",
   "task.sign": "Los {lot}: Vertrag unterzeichnen. Die Wartefrist endete am {until}",
   "task.unsigned": "Los {lot}: Vertrag unterzeichnen",
   "task.contract": "Los {lot}: Vertrag {contract} läuft",

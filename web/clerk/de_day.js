@@ -1,5 +1,6 @@
 // The texts of Today, of awards and letters, and of questions before something is lost, in German.
 export default {
+  "today.begin": "Beginnen Sie unter „{budget}“ mit einer Haushaltsdatei. Schreiben Sie dann unter „{notice}“ eine Bekanntmachung.",
   "today.nothing": "Keine Bekanntmachung, keine Firma, kein Vertrag und keine Rechnung passt dazu. Prüfen Sie die Schreibweise.",
   "today.choose": ["Wählen Sie sie unten aus.", "{count} Bekanntmachungen passen. Wählen Sie unten eine aus, oder schreiben Sie mehr."],
   "today.foundby": "Gefunden durch",

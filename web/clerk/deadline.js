@@ -55,7 +55,7 @@ export function movePart(notice, again) {
 
 function moveOrder({ name, releases }, body) {
   return { kind: "amend", values: { notice: name }, path: `/notices/${name}/amend`, body: jsonBody(body), isFinal: true,
-    says: [[say("editor.does.deadline"), " ", moment(body.deadline)], say("published.reason"), say("move.stays")],
+    says: [[say("editor.does.deadline"), " ", moment(body.deadline), "."], say("published.reason"), say("move.stays")],
     // (a second request would move the deadline again)
     again: null, find: () => ofRelease(name, releases.length, own.amend(body.deadline)) };
 }

@@ -172,7 +172,7 @@ function publication(editor) {
   const items = draft.lots.reduce((all, lot) => all + lot.items.length, 0);
   const lines = linesOf(draft).map((line) => `${line} ${editor.titles.get(line) ?? ""}`.trim()).join("; ");
   return { kind: "notice", values: { notice: draft.name }, path: `/notices/${draft.name}`, body: bodyBytes(draft), isFinal: true,
-    says: [[say("editor.does.deadline"), " ", moment(momentText(draft.deadline))], say("editor.does.money", { sum, lines }),
+    says: [[say("editor.does.deadline"), " ", moment(momentText(draft.deadline)), "."], say("editor.does.money", { sum, lines }),
       say("editor.does.lots", { lots: draft.lots.length, items, count: draft.lots.length }), say("editor.does.stays")],
     shows: (leave) => [warningList(warningTexts(draft, officeNow())), answers(draft, editor.titles, (path) => {
       leave();

@@ -90,7 +90,7 @@ export default {
   "task.examine": ["Lot {lot}: examine 1 tender", "Lot {lot}: examine {count} tenders"],
   "task.award": "Lot {lot}: make the award",
   "task.endlot": "Lot {lot}: no tender can win. End the lot without a contract",
-  "task.standstill": "Lot {lot}: the standstill lasts until {until}",
+  "task.standstill": "Lot {lot}: send the letters, if you haven't yet. The standstill lasts until {until}",
   "task.sign": "Lot {lot}: sign the contract. The standstill ended on {until}",
   "task.unsigned": "Lot {lot}: sign the contract",
   "task.contract": "Lot {lot}: contract {contract} is running",

@@ -1,5 +1,6 @@
 // The texts of Today, of awards and letters, and of questions before something is lost, in English.
 export default {
+  "today.begin": "Begin with a budget file, under “{budget}”. Then write a notice, under “{notice}”.",
   "today.nothing": "No notice, firm, contract or invoice matches this. Check the spelling.",
   "today.choose": ["Choose it below.", "{count} notices match. Choose one below, or type more."],
   "today.foundby": "Found by",

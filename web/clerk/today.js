@@ -39,7 +39,8 @@ export async function drawToday(again) {
     asked.count += AT_ONCE;
     return again();
   }, "second");
-  const none = note("look", say(list.length === 0 ? "see.list.empty" : "task.none"));
+  const begin = [say("see.list.empty"), say("today.begin", { budget: say("page.budget"), notice: say("page.new") })];
+  const none = note("look", ...(list.length === 0 ? begin : [say("task.none")]));
   const place = element("div", {}, shown.length > 0 ? groups(shown) : none);
   const rest = othersText(shown.filter(({ fault }) => !fault).flatMap((entry) => tasksOf(stageOfEntry(entry), officeNow())));
   const all = [...shown, ...entries.filter(({ notice }) => !known.has(notice))];

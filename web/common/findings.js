@@ -132,7 +132,9 @@ function notChosen(tender, shown, byPoints) {
     return "undecided";
   }
   const isEqual = shown.awards.some(({ price }) => price === tender.corrected);
-  return byPoints ? "points" : isEqual ? "later" : "price";
+  const { points } = shown.tenders.get(tender.receipt);
+  const isTied = shown.awards.some(({ receipt }) => shown.tenders.get(receipt)?.points === points);
+  return byPoints && !isTied ? "points" : isEqual ? "later" : byPoints ? "dearer" : "price";
 }
 
 /** The state of the security of a tender of an opened lot: held, returned or forfeited; `unknown` if it isn't

@@ -3,7 +3,7 @@ import { element, link, title } from "./draw.js";
 import { cityFile } from "./city.js";
 import { button, note, steps } from "./forms.js";
 import { minuteText } from "./money.js";
-import { sentenceOf } from "./office.js";
+import { officeNow, sentenceOf } from "./office.js";
 import { chooseLanguage, language, languages, say } from "./texts.js";
 
 const byId = (id) => document.getElementById(id);
@@ -137,7 +137,7 @@ function put({ content, told, title: name, isSheet = false, help = "" }, sentenc
 
 /** On paper: where the sheet comes from, and when it was printed. */
 export function sourceOf() {
-  return say("sheet.from", { address: location.href, when: minuteText(Date.now()) });
+  return say("sheet.from", { address: location.href, when: minuteText(officeNow()) });
 }
 
 function tellSource() {

@@ -91,9 +91,9 @@ export function securityFaults({ security: { reference, amount }, lot, changes }
   if (changes !== null || !lot.security) {
     return {};
   }
-  const { value } = typed(amount, MOST_PRICE);
+  const { value, fault } = typed(amount, MOST_PRICE);
   return { ...(isId(reference) ? {} : { reference: say("refusal.BadBody.security") }),
-    ...(!value ? { amount: say("refusal.BadBody.amount") } : value < lot.security ? { amount: say("refusal.SecurityTooSmall") } : {}) };
+    ...(fault ? { amount: say(`typed.${fault}`) } : value < lot.security ? { amount: say("refusal.SecurityTooSmall") } : {}) };
 }
 
 /** The security as it is sent, or null. */

@@ -1,20 +1,5 @@
 -- A tree of rows by their keys behaves as a table.
-use Rattle.std.specs.Prelude.{◌≡◌, List, [], ◌∷◌, Bool, true, false, ◌&&◌, None, IsSome}
-use Rattle.std.proofs.Common.{refl, sym, ap, ◌∙◌, subst}
-use Rattle.std.specs.Cmp.{IsTotalOrder}
-use Rattle.std.specs.List.{list_all, AllByRecursion}
-use Rattle.std.specs.List.Sorted.{IsStrictlySortedBy}
-use Rattle.std.specs.Map.{keys_of, values_of, lookup, set_value, remove_entry}
-use Rattle.std.specs.BTreeMap.{is_at, insert_entry}
-use Rattle.std.specs.declared.cmp.Ordering.{Ordering}
-use Rattle.std.specs.declared.cmp.Ordering.TheVariants.{Less, Equal, Greater}
-use Rattle.std.proofs.lemmas.Map.{NonePasses, lookup-none, keys-set_value}
-use Rattle.std.proofs.lemmas.Map.Entries.{none_below_head}
-use Rattle.std.proofs.lemmas.Map.Keys.{sorted_tail}
-use Rattle.office_base.specs.Rows.{row_at, row_put, row_drop}
-use Rattle.keyed_table.specs.Inside.Keyed.{stands_at_its_key, IsKeyed}
-use Rattle.office_base.proofs.Orders.{same_key, equal_back, alike_right, equal_from_test}
-use Rattle.office_base.proofs.RowLaws.{all-put}
+use Rattle.keyed_table.proofs.Names.{◌≡◌, List, [], ◌∷◌, Bool, true, false, ◌&&◌, None, IsSome, refl, sym, ap, ◌∙◌, subst, IsTotalOrder, list_all, AllByRecursion, IsStrictlySortedBy, keys_of, values_of, lookup, set_value, remove_entry, is_at, insert_entry, Ordering, Less, Equal, Greater, NonePasses, lookup-none, keys-set_value, none_below_head, sorted_tail, row_at, row_put, row_drop, stands_at_its_key, IsKeyed, same_key, equal_back, alike_right, equal_from_test, all-put}
 use Rattle.keyed_table.proofs.RowDropped.{all-drop}
 
 both_left : (a b : Bool) → a && b ≡ true → a ≡ true

@@ -1,3 +1,4 @@
+pub mod Names
 pub mod RowDropped
 pub mod KeyedTrees
 pub mod RowRanges

@@ -1,9 +1,5 @@
 -- A row that is dropped from a table.
-use Rattle.std.specs.Prelude.{List, [], ◌∷◌}
-use Rattle.std.specs.List.{AllByRecursion}
-use Rattle.std.specs.declared.cmp.Ordering.{Ordering}
-use Rattle.std.specs.declared.cmp.Ordering.TheVariants.{Less, Equal, Greater}
-use Rattle.office_base.specs.Rows.{by_order, row_drop}
+use Rattle.keyed_table.proofs.Names.{List, [], ◌∷◌, AllByRecursion, Ordering, Less, Equal, Greater, by_order, row_drop}
 
 all_step : {X : Type 0} (P : X → Type 0) (x : X) (xs dropped : List X) → P x × AllByRecursion P xs → AllByRecursion P dropped → (c : Ordering) → AllByRecursion P (by_order c (x ∷ xs) xs (x ∷ dropped))
 all_step P x xs dropped h ih Less = h

@@ -1,24 +1,5 @@
 -- The rows between two keys, and the order of the rows of a tree.
-use Rattle.std.specs.Prelude.{◌≡◌, Bool, true, false, cond, not, ◌&&◌, List, [], ◌∷◌, filter, Option, Some, None, ℕ, ◌≤◌, ◌++◌, length, take}
-use Rattle.std.proofs.Common.{refl, sym, ap, ◌∙◌}
-use Rattle.std.specs.Cmp.{IsTotalOrder}
-use Rattle.std.specs.List.{list_all, AllByRecursion}
-use Rattle.std.specs.List.Sorted.{IsStrictlySortedBy}
-use Rattle.std.specs.Map.{keys_of, values_of}
-use Rattle.std.specs.Ordering.{is_eq, is_le, is_lt}
-use Rattle.std.specs.declared.cmp.Ordering.{Ordering}
-use Rattle.std.specs.declared.cmp.Ordering.TheVariants.{Less, Equal}
-use Rattle.std.proofs.lemmas.Bool.{and_parts}
-use Rattle.std.proofs.lemmas.List.{append-nil, take_all}
-use Rattle.std.proofs.Math.Seq.{take-append_seam}
-use Rattle.std.proofs.lemmas.Map.Keys.{sorted_head, sorted_tail}
-use Rattle.office_base.specs.Rows.{StartsAbove, IsInOrder}
-use Rattle.office_base.specs.Pages.{is_after, rows_after}
-use Rattle.keyed_table.specs.Inside.Keyed.{stands_at_its_key}
-use Rattle.keyed_table.specs.RowRanges.{is_between, rows_between, start_of}
-use Rattle.std.specs.BTreeMap.Range.{range_contains}
-use Rattle.std.specs.declared.ops.Bound.TheVariants.{Unbounded}
-use Rattle.office_base.proofs.Orders.{alike_right, equal_from_test}
+use Rattle.keyed_table.proofs.Names.{◌≡◌, Bool, true, false, cond, not, ◌&&◌, List, [], ◌∷◌, filter, Option, Some, None, ℕ, ◌≤◌, ◌++◌, length, take, refl, sym, ap, ◌∙◌, IsTotalOrder, list_all, AllByRecursion, IsStrictlySortedBy, keys_of, values_of, is_eq, is_le, is_lt, Ordering, Less, Equal, and_parts, append-nil, take_all, take-append_seam, sorted_head, sorted_tail, StartsAbove, IsInOrder, is_after, rows_after, stands_at_its_key, is_between, rows_between, start_of, range_contains, Unbounded, alike_right, equal_from_test}
 
 and_true : (b : Bool) → b && true ≡ b
 and_true true = refl

@@ -1,13 +1,5 @@
 -- A put is undone by restoring the row that it replaced.
-use Rattle.std.specs.Prelude.{◌≡◌, List, [], ◌∷◌, Option, Some, None}
-use Rattle.std.proofs.Common.{refl, sym, ap, ◌∙◌}
-use Rattle.std.specs.Cmp.{IsTotalOrder}
-use Rattle.std.specs.declared.cmp.Ordering.{Ordering}
-use Rattle.std.specs.declared.cmp.Ordering.TheVariants.{Less, Equal, Greater}
-use Rattle.office_base.specs.Rows.{row_at, row_put, row_drop}
-use Rattle.office_base.specs.RowLaws.{RowsAreKept}
-use Rattle.keyed_table.specs.Replacing.{with_old, IsThere}
-use Rattle.office_base.proofs.Orders.{same_key, equal_back}
+use Rattle.keyed_table.proofs.Names.{◌≡◌, List, [], ◌∷◌, Option, Some, None, refl, sym, ap, ◌∙◌, IsTotalOrder, Ordering, Less, Equal, Greater, row_at, row_put, row_drop, RowsAreKept, with_old, IsThere, same_key, equal_back}
 
 module _ {K X : Type 0} {R : K → K → Ordering} (o : IsTotalOrder R) (key : X → K) (laws : RowsAreKept R key) where
   new_step : (r x : X) (xs : List X) → (row_at R key xs (key r) ≡ None → row_drop R key (row_put R key xs r) (key r) ≡ xs)

@@ -1,20 +1,5 @@
 -- Lists and maps of the code, and the data that they mean.
-use Rattle.std.proofs.Common.{◌≡◌, ◌<◌, ◌+◌, ℕ, zero, suc, List, [], ◌∷◌, ◌++◌, map, take, drop, set, length, get_or, true, false, cond, Option, Some, None, option_map, unwrap_or, String, Global, Ordering, Less, Equal, Greater, string_bytes, string_cmp, nat_cmp, is_eq, bytes_eq, refl, sym, ap, ◌∙◌, subst, arith, rules}
-use Rattle.std.specs.List.{AllByRecursion}
-use Rattle.std.proofs.lemmas.List.{drop_more, get_or-map, length-map, set-set, map-set, map-append}
-use Rattle.std.specs.List.Sorted.{IsStrictlySortedBy}
-use Rattle.std.specs.Map.{keys_of, remove_entry}
-use Rattle.std.specs.BTreeMap.{is_at}
-use Rattle.std.specs.Ordering.{match_ordering}
-use Rattle.std.specs.Cmp.Lexicographic.{slice_cmp}
-use Rattle.serde_json.specs.Data.{Data, null, item, Members, member}
-use Rattle.serde_json.specs.View.{view, items_view, members_view}
-use Rattle.serde_json.specs.declared.value.Value.{Value, Null, the_lemmas}
-use Rattle.serde_json.proofs.Views.{Entry}
-use Rattle.ocds_merge.specs.Identified.{id_of}
-use Rattle.ocds_merge.specs.Merge.{names_of}
-use Rattle.ocds_merge.specs.Compile.{members_without}
-use Rattle.ocds_merge.specs.Inside.Step.{find_item, set_item, step, Lacks}
+use Rattle.ocds_merge.proofs.Names.{◌≡◌, ◌<◌, ◌+◌, ℕ, zero, suc, List, [], ◌∷◌, ◌++◌, map, take, drop, set, length, get_or, true, false, cond, Option, Some, None, option_map, unwrap_or, String, Global, Ordering, Less, Equal, Greater, string_bytes, string_cmp, nat_cmp, is_eq, bytes_eq, refl, sym, ap, ◌∙◌, subst, arith, rules, AllByRecursion, drop_more, get_or-map, length-map, set-set, map-set, map-append, IsStrictlySortedBy, keys_of, remove_entry, is_at, match_ordering, slice_cmp, Data, null, item, Members, member, view, items_view, members_view, Value, Null, the_lemmas, Entry, id_of, names_of, members_without, find_item, set_item, step, Lacks}
 use Rattle.ocds_merge.proofs.MemberLemmas.{bytes_cmp}
 
 pub lacks_push : (i : List ℕ) (ds : List Data) (d : Data) → Lacks i ds → bytes_eq (id_of d) i ≡ false → Lacks i (ds ++ d ∷ [])

@@ -1,14 +1,5 @@
 -- The head of a compiled release replaces those of the releases, so the releases may be merged with their heads.
-use Rattle.std.proofs.Common.{◌≡◌, ◌+◌, ℕ, zero, suc, List, [], ◌∷◌, ◌++◌, map, reverse, Bool, true, false, cond, Option, Some, None, option_to_list, unwrap_or, refl, sym, ap, ◌∙◌, subst, arith, bytes_eq, codes}
-use Rattle.std.proofs.lemmas.Slice.Eq.{bytes_eq-Decides}
-use Rattle.std.proofs.lemmas.List.{map-append, reverse-append}
-use Rattle.serde_json.specs.Data.{Data, null, boolean, number, string, array, object, Items, Members, put}
-use Rattle.serde_json.specs.Find.{get_member}
-use Rattle.serde_json.specs.View.{items_of}
-use Rattle.serde_json.proofs.Views.{get_member-put, get_member-put_other}
-use Rattle.ocds_merge.specs.Identified.{is_id_list}
-use Rattle.ocds_merge.specs.Merge.{object_run, column_at, names_in, merge_objects, id_list_run, items_in, merge_items, merge_within, deepest_of, merge_newest_first, merge_or_null}
-use Rattle.ocds_merge.specs.Compile.{members_without, body_of, compiled_tag, put_head, with_head}
+use Rattle.ocds_merge.proofs.Names.{◌≡◌, ◌+◌, ℕ, zero, suc, List, [], ◌∷◌, ◌++◌, map, reverse, Bool, true, false, cond, Option, Some, None, option_to_list, unwrap_or, refl, sym, ap, ◌∙◌, subst, arith, bytes_eq, codes, bytes_eq-Decides, map-append, reverse-append, Data, null, boolean, number, string, array, object, Items, Members, put, get_member, items_of, get_member-put, get_member-put_other, is_id_list, object_run, column_at, names_in, merge_objects, id_list_run, items_in, merge_items, merge_within, deepest_of, merge_newest_first, merge_or_null, members_without, body_of, compiled_tag, put_head, with_head}
 use Rattle.ocds_merge.proofs.MemberLemmas.{IsSorted, same_members, sorted_put, get_delete_other}
 use Rattle.ocds_merge.proofs.ObjectLaw.{apart, get_objects, sorted_names}
 use Rattle.ocds_merge.proofs.ItemLaw.{empty_to}

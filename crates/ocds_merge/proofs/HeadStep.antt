@@ -1,19 +1,6 @@
 -- The head of a compiled release, merged into an object as one more value, is put over its members.
-use Rattle.std.proofs.Common.{◌≡◌, ◌≤◌, ℕ, List, [], ◌∷◌, ◌++◌, Bool, true, false, T, Some, All, refl, sym, ap, ◌∙◌, subst, arith, codes, bytes_eq, unwrap_or, Option}
-use Rattle.std.specs.Ordering.{is_lt}
+use Rattle.ocds_merge.proofs.Names.{◌≡◌, ℕ, List, [], ◌∷◌, ◌++◌, Bool, true, false, T, Some, All, refl, sym, ap, ◌∙◌, subst, arith, codes, bytes_eq, unwrap_or, Option, is_lt, All-append, All-cons, All-nil, bytes_eq-Decides, Data, null, string, object, Members, no_members, member, put, get_member, read, compact_text, get_member-put, get_member-put_other, merge_or_null, members_without, compiled_tag, with_head, IsStorable, IsWrittenObject, KeepsMerge, step, AllAbove, IsOrdered, TextIsKept}
 use Rattle.std.specs.FinMap.Entries as E
-use Rattle.std.proofs.lemmas.List.Elements.{All-append, All-cons, All-nil}
-use Rattle.std.proofs.lemmas.Slice.Eq.{bytes_eq-Decides}
-use Rattle.serde_json.specs.Data.{Data, null, string, object, Members, no_members, member, put, depth}
-use Rattle.serde_json.specs.Find.{get_member}
-use Rattle.serde_json.specs.Read.{read, max_depth}
-use Rattle.serde_json.specs.Written.{compact_text}
-use Rattle.serde_json.proofs.Views.{get_member-put, get_member-put_other}
-use Rattle.ocds_merge.specs.Merge.{merge_or_null}
-use Rattle.ocds_merge.specs.Compile.{members_without, compiled_tag, with_head}
-use Rattle.ocds_merge.specs.Stored.{IsStorable, IsWrittenObject, KeepsMerge}
-use Rattle.ocds_merge.specs.Inside.Step.{step}
-use Rattle.ocds_merge.specs.Inside.Splice.{AllAbove, IsOrdered, TextIsKept}
 use Rattle.ocds_merge.proofs.MemberLemmas.{bytes_cmp, entries, IsSorted, both, sorted_put, sorted_delete, same_members, get_delete_other}
 use Rattle.ocds_merge.proofs.ObjectLaw.{apart}
 use Rattle.ocds_merge.proofs.HeadLaw.{put_over}

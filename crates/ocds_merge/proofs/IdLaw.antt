@@ -1,18 +1,5 @@
 -- A merge keeps the id of an item.
-use Rattle.std.proofs.Common.{◌≡◌, ℕ, List, [], Bool, true, false, ◌&&◌, Option, Some, None, is_some, option_map, option_and_then, unwrap_or, refl, sym, ap, ◌∙◌, subst, bytes_eq, codes, true≢false}
-use Rattle.std.specs.List.Sorted.{IsStrictlySortedBy}
-use Rattle.std.proofs.lemmas.Slice.Eq.{bytes_eq-Decides}
-use Rattle.std.proofs.lemmas.Map.Keys.{sorted_head, sorted_tail}
-use Rattle.serde_json.specs.Data.{Data, null, boolean, number, string, array, object, Members, no_members, member, put}
-use Rattle.serde_json.specs.Find.{get_member, as_str}
-use Rattle.serde_json.specs.View.{view}
-use Rattle.serde_json.specs.declared.value.Value.{Value, Null}
-use Rattle.serde_json.proofs.Views.{get_member-put}
-use Rattle.ocds_merge.specs.Identified.{text_id, id_of}
-use Rattle.ocds_merge.specs.Merge.{names_of, put_present}
-use Rattle.ocds_merge.specs.Compile.{members_without}
-use Rattle.ocds_merge.specs.Laws.{IsProper}
-use Rattle.ocds_merge.specs.Inside.Step.{step, step_members, object_of}
+use Rattle.ocds_merge.proofs.Names.{◌≡◌, ℕ, List, [], Bool, true, false, ◌&&◌, Option, Some, None, is_some, option_map, option_and_then, unwrap_or, refl, sym, ap, ◌∙◌, subst, bytes_eq, codes, true≢false, IsStrictlySortedBy, bytes_eq-Decides, sorted_head, sorted_tail, Data, null, boolean, number, string, array, object, Members, no_members, member, put, get_member, as_str, view, Value, Null, get_member-put, text_id, id_of, names_of, put_present, members_without, IsProper, step, step_members, object_of}
 use Rattle.ocds_merge.proofs.MemberLemmas.{bytes_cmp, skips, here, get_delete_other, get_put_some_other}
 use Rattle.ocds_merge.proofs.ObjectLaw.{apart, above}
 use Rattle.ocds_merge.proofs.CodeLemmas.{new_view}

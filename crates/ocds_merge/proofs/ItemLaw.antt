@@ -1,13 +1,5 @@
 -- Id lists: the item that a merge has for an id, and one more item.
-use Rattle.std.proofs.Common.{◌≡◌, ◌<◌, ℕ, zero, suc, List, [], ◌∷◌, ◌++◌, map, filter, Bool, true, false, cond, ◌||◌, Option, Some, None, is_some, option_to_list, option_and_then, unwrap_or, refl, sym, ap, ◌∙◌, subst, arith, bytes_eq, codes, true≢false}
-use Rattle.std.specs.List.{list_any}
-use Rattle.std.proofs.lemmas.Slice.Eq.{bytes_eq-Decides}
-use Rattle.std.proofs.lemmas.List.Folds.{list_any-append}
-use Rattle.serde_json.specs.Data.{Data, null, boolean, number, string, array, object, Items, no_items, item, depth}
-use Rattle.serde_json.specs.Find.{get_member, as_str}
-use Rattle.ocds_merge.specs.Identified.{text_id, id_of}
-use Rattle.ocds_merge.specs.Merge.{object_run, column_at, items_ahead, ids_in, merge_within}
-use Rattle.ocds_merge.specs.Inside.Step.{find_item, set_item}
+use Rattle.ocds_merge.proofs.Names.{◌≡◌, ◌<◌, ℕ, zero, suc, List, [], ◌∷◌, ◌++◌, map, filter, Bool, true, false, cond, ◌||◌, Option, Some, None, is_some, option_to_list, option_and_then, unwrap_or, refl, sym, ap, ◌∙◌, subst, arith, bytes_eq, codes, true≢false, list_any, bytes_eq-Decides, list_any-append, Data, null, boolean, number, string, array, object, Items, no_items, item, depth, get_member, as_str, text_id, id_of, object_run, column_at, items_ahead, ids_in, merge_within, find_item, set_item}
 use Rattle.ocds_merge.proofs.ObjectLaw.{Below, apart, or_left, or_right, get_objects}
 
 -- each is an object with a text id

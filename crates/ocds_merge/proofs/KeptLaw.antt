@@ -1,15 +1,5 @@
 -- Values that are read back from their texts have no float, and their objects are in order.
-use Rattle.std.proofs.Common.{◌≡◌, ℕ, List, Bool, true, false, ◌||◌, refl, Less, Greater, pos, negsuc, ap, ◌∙◌}
-use Rattle.std.specs.Ordering.{ordering_reverse}
-use Rattle.std.proofs.lemmas.Cmp.{nat_list_cmp_total}
-use Rattle.std.specs.List.{AllByRecursion}
-use Rattle.std.specs.List.Sorted.{IsStrictlySortedBy}
-use Rattle.serde_json.specs.Data.{Num, unsigned, negative, float, Data, null, boolean, number, string, array, object, Items, no_items, item, Members, no_members, member}
-use Rattle.serde_json.specs.Find.{is_float}
-use Rattle.serde_json.specs.Written.{has_float, items_have_float, members_have_float}
-use Rattle.ocds_merge.specs.Merge.{names_of}
-use Rattle.ocds_merge.specs.Laws.{IsProper, AreItemsProper, AreMembersProper}
-use Rattle.ocds_merge.specs.Inside.Splice.{IsInRange, AllAbove, IsOrdered, TextIsKept, AreItemsKept, AreMembersKept}
+use Rattle.ocds_merge.proofs.Names.{◌≡◌, ℕ, List, Bool, true, false, ◌||◌, refl, Less, Greater, pos, negsuc, ap, ◌∙◌, ordering_reverse, nat_list_cmp_total, AllByRecursion, IsStrictlySortedBy, Num, unsigned, negative, float, Data, null, boolean, number, string, array, object, Items, no_items, item, Members, no_members, member, is_float, has_float, items_have_float, members_have_float, names_of, IsProper, AreItemsProper, AreMembersProper, IsInRange, AllAbove, IsOrdered, TextIsKept, AreItemsKept, AreMembersKept}
 use Rattle.ocds_merge.proofs.MemberLemmas.{bytes_cmp}
 
 -- ---- no float

@@ -1,14 +1,5 @@
 -- A merge of values that can be read back can be read back.
-use Rattle.std.proofs.Common.{◌≡◌, ℕ, List, [], ◌∷◌, Bool, true, false, cond, Option, Some, None, Less, Equal, Greater, Ordering, refl, unwrap_or, bytes_eq}
-use Rattle.std.specs.Ordering.{match_ordering}
-use Rattle.serde_json.specs.Data.{Data, null, boolean, number, string, array, object, Items, no_items, item, Members, no_members, member, put}
-use Rattle.serde_json.specs.Find.{get_member}
-use Rattle.serde_json.specs.View.{items_of}
-use Rattle.ocds_merge.specs.Identified.{id_of, is_id_list}
-use Rattle.ocds_merge.specs.Merge.{put_present}
-use Rattle.ocds_merge.specs.Compile.{members_without}
-use Rattle.ocds_merge.specs.Inside.Step.{step, step_items, step_members, object_of, id_list_of, items_list, find_item, set_item}
-use Rattle.ocds_merge.specs.Inside.Splice.{AllAbove, IsOrdered, TextIsKept, AreItemsKept, AreMembersKept}
+use Rattle.ocds_merge.proofs.Names.{◌≡◌, ℕ, List, [], ◌∷◌, Bool, true, false, cond, Option, Some, None, Less, Equal, Greater, Ordering, refl, unwrap_or, bytes_eq, match_ordering, Data, null, boolean, number, string, array, object, Items, no_items, item, Members, no_members, member, put, get_member, items_of, id_of, is_id_list, put_present, members_without, step, step_items, step_members, object_of, id_list_of, items_list, find_item, set_item, AllAbove, IsOrdered, TextIsKept, AreItemsKept, AreMembersKept}
 use Rattle.ocds_merge.proofs.MemberLemmas.{bytes_cmp}
 use Rattle.ocds_merge.proofs.KeptLaw.{greater_from_less}
 use Rattle.ocds_merge.proofs.SpliceLaw.{above_after, below_from_above}

@@ -1,11 +1,5 @@
 -- The last value of a column decides the kind of the merge, at any depth.
-use Rattle.std.proofs.Common.{◌≡◌, ◌<◌, ℕ, suc, List, [], ◌∷◌, ◌++◌, reverse, true, false, Option, Some, unwrap_or, refl, sym, ap, ◌∙◌, arith}
-use Rattle.std.proofs.lemmas.List.{reverse-append}
-use Rattle.serde_json.specs.Data.{Data, null, array, object, Items, Members, depth}
-use Rattle.serde_json.specs.Find.{get}
-use Rattle.serde_json.specs.View.{items_of}
-use Rattle.ocds_merge.specs.Identified.{is_id_list}
-use Rattle.ocds_merge.specs.Merge.{object_run, id_list_run, column_at, items_in, ids_in, merge_items, merge_within, deepest_of, merge_newest_first, merge_of, merge_or_null}
+use Rattle.ocds_merge.proofs.Names.{◌≡◌, ◌<◌, ℕ, suc, List, [], ◌∷◌, ◌++◌, reverse, true, false, Option, Some, unwrap_or, refl, sym, ap, ◌∙◌, arith, reverse-append, Data, null, array, object, Items, Members, depth, get, items_of, is_id_list, object_run, id_list_run, column_at, items_in, ids_in, merge_items, merge_within, deepest_of, merge_newest_first, merge_of, merge_or_null}
 use Rattle.ocds_merge.proofs.ObjectLaw.{Below, column_below, objects_below, get_objects}
 use Rattle.ocds_merge.proofs.ItemLaw.{empty_to}
 use Rattle.ocds_merge.proofs.MergeLaw.{Agree, agree, below_deepest, items_agree, lists_below}

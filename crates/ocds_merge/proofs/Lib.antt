@@ -1,3 +1,4 @@
+pub mod Names
 pub mod MemberLemmas
 pub mod ObjectLaw
 pub mod ItemLaw

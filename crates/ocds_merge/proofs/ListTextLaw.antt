@@ -1,16 +1,6 @@
 -- The items of a list in its text, and their ids.
-use Rattle.std.proofs.Common.{◌≡◌, ◌≢◌, ℕ, ◌<◌, suc, pos, negsuc, List, [], ◌∷◌, ◌++◌, Bool, true, false, Some, option_and_then, refl, sym, ap, ◌∙◌, subst, append_assoc, arith, decimal, length, ◌⊎◌, inl, inr}
-use Rattle.std.proofs.lemmas.Fmt.{decimal_is_IsNumeral, decimal_nonempty}
-use Rattle.std.proofs.lemmas.Bool.{ne_eqb}
-use Rattle.std.specs.Str.Parse.{AllDigits}
-use Rattle.std.specs.Char.{digit_value}
-use Rattle.json.specs.Print.{escape}
-use Rattle.serde_json.specs.Data.{Num, unsigned, negative, float, Data, null, boolean, number, string, array, object, Items, no_items, item, Members, no_members, member}
-use Rattle.serde_json.specs.Find.{get_member, as_str}
-use Rattle.serde_json.specs.Written.{compact_text, items_text, members_text, number_text}
-use Rattle.ocds_merge.specs.Identified.{text_member}
-use Rattle.ocds_merge.specs.Inside.Scan.{scan, between, IsPlain}
-use Rattle.ocds_merge.specs.Inside.Splice.{IsInRange, TextIsKept, AreItemsKept, EndsBefore, no_comma, StandAt, Searched, FoundAt}
+use Rattle.ocds_merge.proofs.Names.{◌≡◌, ◌≢◌, ℕ, ◌<◌, suc, pos, negsuc, List, [], ◌∷◌, ◌++◌, Bool, true, false, Some, option_and_then, refl, sym, ap, ◌∙◌, subst, append_assoc, arith, decimal, length, ◌⊎◌, inl, inr, decimal_is_IsNumeral, decimal_nonempty, ne_eqb, AllDigits, digit_value, escape, Num, unsigned, negative, float, Data, null, boolean, number, string, array, object, Items, no_items, item, Members, no_members, member, get_member, as_str, compact_text, items_text, members_text, number_text, text_member, scan, IsPlain, IsInRange, TextIsKept, AreItemsKept, EndsBefore, no_comma, StandAt, Searched, FoundAt}
+use Rattle.ocds_merge.specs.Inside.Scan.{between}
 use Rattle.ocds_merge.proofs.MemberLemmas.{here, skips}
 use Rattle.ocds_merge.proofs.SpliceLaw.{heads, tails, plain_name, no_member_here, member_here, after_member, no_comma_members}
 
@@ -51,9 +41,6 @@ led (number n) r h = number_led n r h
 led (string s) r h = record { first = 34; after = _; is = refl; lead = refl }
 led (array ds) r h = record { first = 91; after = _; is = refl; lead = refl }
 led (object ms) r h = record { first = 123; after = _; is = refl; lead = refl }
-
-sign_not : (c x : ℕ) → c ≡ 45 → c ≡ x → x ≢ 45 → ⊥
-sign_not c x e f other = other (sym f ∙ e)
 
 pub not_object : (d : Data) (c : ℕ) → Lead d c → c ≡ 123 → (ms : Members) × (d ≡ object ms)
 not_object null c h e = absurd (omega (arith, h, e))

@@ -1,14 +1,5 @@
 -- One old item in the text of an id list is merged or copied, and an object or a list is merged into one of its kind.
-use Rattle.std.proofs.Common.{◌≡◌, ℕ, ◌<◌, List, [], ◌∷◌, ◌++◌, Bool, true, false, Option, Some, is_some, map, set, get_or, length, refl, sym, ap, ◌∙◌, subst, append_assoc, unwrap_or, arith, bytes_eq}
-use Rattle.std.proofs.lemmas.Slice.Eq.{bytes_eq-Decides}
-use Rattle.serde_json.specs.Data.{Data, null, array, object, Items, no_items, item, Members}
-use Rattle.serde_json.specs.View.{view, items_of, items_view}
-use Rattle.serde_json.specs.declared.value.Value.{Value}
-use Rattle.serde_json.specs.Written.{compact_text, items_text, members_text, comma_if}
-use Rattle.ocds_merge.specs.Identified.{id_of, text_id, all_have_id, is_id_list}
-use Rattle.ocds_merge.specs.Inside.Step.{Lacks, step, step_items, step_members, items_list, id_list_of}
-use Rattle.ocds_merge.specs.Inside.Pending.{HaveDistinctIds, alone, pending, step_list}
-use Rattle.ocds_merge.specs.Inside.Splice.{TextIsKept, AreItemsKept, EndsBefore, no_comma, SameItems, ItemsMerged}
+use Rattle.ocds_merge.proofs.Names.{◌≡◌, ℕ, ◌<◌, List, [], ◌∷◌, ◌++◌, Bool, true, false, Option, Some, is_some, map, set, get_or, length, refl, sym, ap, ◌∙◌, subst, append_assoc, unwrap_or, arith, bytes_eq, bytes_eq-Decides, Data, null, array, object, Items, no_items, item, Members, view, items_of, items_view, Value, compact_text, items_text, members_text, comma_if, id_of, text_id, all_have_id, is_id_list, Lacks, step, step_items, step_members, items_list, id_list_of, HaveDistinctIds, alone, pending, step_list, TextIsKept, AreItemsKept, EndsBefore, no_comma, SameItems, ItemsMerged}
 use Rattle.ocds_merge.proofs.SpliceLaw.{heads, tails}
 use Rattle.ocds_merge.proofs.ListTextLaw.{led, opens_well, item_first, no_comma_items, ends_before_items}
 use Rattle.ocds_merge.proofs.PendingLaw.{KeepIds, keep_ids, keep_pending, distinct_pending, lacks_pending, stays, meets, merged_with, all_new, step_items-list, old_list}

@@ -1,15 +1,6 @@
 -- Members in order are determined by their look-ups.
-use Rattle.std.proofs.Common.{◌≡◌, ℕ, List, [], ◌∷◌, Bool, true, false, T, ◌&&◌, Option, Some, None, Ordering, Less, Equal, Greater, nat_cmp, refl, sym, ap, ◌∙◌, subst, cond}
-use Rattle.std.specs.Ordering.{match_ordering, is_eq, is_lt}
-use Rattle.std.specs.Cmp.Lexicographic.{slice_cmp}
+use Rattle.ocds_merge.proofs.Names.{◌≡◌, ℕ, List, [], ◌∷◌, Bool, true, false, T, ◌&&◌, Option, Some, None, Ordering, Less, Equal, Greater, nat_cmp, refl, sym, ap, ◌∙◌, subst, cond, match_ordering, is_eq, is_lt, slice_cmp, nat_list_cmp_total, tied_itself, exact_bytes, Data, Members, no_members, member, put, get_member, get_member-put, get_member-put_other, put_present, members_without}
 use Rattle.std.specs.FinMap.Entries as E
-use Rattle.std.proofs.lemmas.Cmp.{nat_list_cmp_total, tied_itself}
-use Rattle.std.proofs.lemmas.Map.Lookups.{exact_bytes}
-use Rattle.serde_json.specs.Data.{Data, Members, no_members, member, put}
-use Rattle.serde_json.specs.Find.{get_member}
-use Rattle.serde_json.proofs.Views.{get_member-put, get_member-put_other}
-use Rattle.ocds_merge.specs.Merge.{put_present}
-use Rattle.ocds_merge.specs.Compile.{members_without}
 
 abbrev pub bytes_cmp : List ℕ → List ℕ → Ordering
 bytes_cmp = slice_cmp nat_cmp
@@ -31,11 +22,6 @@ from-entries (member k d ms) = ap (member k d) (from-entries ms)
 
 abbrev pub IsSorted : Members → Type 0
 IsSorted ms = T (E.is_sorted bytes_cmp (entries ms))
-
-found_or : (o : Ordering) (e : Data) (x y : Option Data) → x ≡ y → E.by_order o x (Some e) x ≡ match_ordering o y (Some e) y
-found_or Less e x y h = h
-found_or Equal e x y h = refl
-found_or Greater e x y h = h
 
 tied_or : (o : Ordering) (e : Data) (x y : Option Data) → x ≡ y → cond (is_eq o) (Some e) x ≡ match_ordering o y (Some e) y
 tied_or Less e x y h = h

@@ -1,14 +1,8 @@
 -- One new member is merged into the text of an object.
-use Rattle.std.proofs.Common.{◌≡◌, ℕ, List, [], ◌∷◌, ◌++◌, Bool, true, false, cond, Option, Some, None, refl, sym, ap, ◌∙◌, subst, append_assoc, unwrap_or, arith}
-use Rattle.json.specs.Print.{quoted}
-use Rattle.serde_json.specs.Data.{Data, null, boolean, number, string, array, object, Members, no_members, member}
-use Rattle.serde_json.specs.View.{items_of}
-use Rattle.serde_json.specs.Written.{compact_text, members_text, comma_if}
-use Rattle.ocds_merge.specs.Identified.{is_id_list}
-use Rattle.ocds_merge.specs.Inside.Scan.{scan, between, IsPlain}
-use Rattle.ocds_merge.specs.Inside.Step.{step, step_members, step_items, id_list_of}
-use Rattle.ocds_merge.specs.Inside.Splice.{TextIsKept, AreMembersKept, IsOrdered, AllAbove, EndsBefore, no_comma, StandAt, StartsFrom, StartsWith, SameText, Passed, Merged}
-use Rattle.ocds_merge.proofs.SpliceLaw.{no_member_here, member_here, no_comma_members, after_member, above_from, with_member, turn_found, turn_absent, heads}
+use Rattle.ocds_merge.proofs.Names.{◌≡◌, ℕ, List, [], ◌∷◌, ◌++◌, Bool, true, false, cond, Option, Some, None, refl, sym, ap, ◌∙◌, subst, append_assoc, unwrap_or, quoted, Data, null, boolean, number, string, array, object, Members, no_members, member, items_of, compact_text, members_text, comma_if, is_id_list, scan, IsPlain, step, step_members, step_items, id_list_of, TextIsKept, AreMembersKept, IsOrdered, AllAbove, EndsBefore, no_comma, StandAt, StartsFrom, StartsWith, SameText, Merged}
+use Rattle.ocds_merge.specs.Inside.Scan.{between}
+use Rattle.ocds_merge.specs.Inside.Splice.{Passed}
+use Rattle.ocds_merge.proofs.SpliceLaw.{no_member_here, member_here, no_comma_members, after_member, above_from, with_member, turn_found, turn_absent}
 
 -- ---- the next member
 
@@ -25,10 +19,6 @@ absent_at name left no_members rest m whole value h is form plain start other = 
 absent_at name left (member k d others) rest m whole value h is form plain start other =
     let r = member_here k m value rest d others plain (sym h.stands ∙ is ∙ form) in
     above_from name k d others h.order start (λ e. other (sym (e ∙ r.0)))
-
-pub none_at : (name left : List ℕ) (ts : Members) (rest s : List ℕ) → StandAt left ts rest → no_comma left ≡ 125 ∷ s → AllAbove name ts
-none_at name left no_members rest s h e = tt
-none_at name left (member k d ts) rest s h e = absurd (let z : 34 ≡ 125 = heads 34 125 _ s (sym h.stands ∙ e) in omega (arith, z))
 
 -- ---- a member's turn
 

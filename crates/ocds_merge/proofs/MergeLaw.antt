@@ -1,14 +1,5 @@
 -- The merge of one more value is a step from the merge of the others.
-use Rattle.std.proofs.Common.{◌≡◌, ◌<◌, ◌≤◌, ℕ, zero, suc, max, List, [], ◌∷◌, ◌++◌, map, filter, reverse, Bool, true, false, cond, ◌&&◌, ◌||◌, Option, Some, None, is_some, unwrap_or, refl, sym, ap, ◌∙◌, arith, bytes_eq, true≢false}
-use Rattle.std.specs.List.{list_any}
-use Rattle.std.proofs.Math.Nat.{le-max_left, le-max_right}
-use Rattle.std.proofs.lemmas.List.{map-append, reverse-append}
-use Rattle.serde_json.specs.Data.{Data, null, boolean, number, string, array, object, Items, no_items, item, Members, no_members, depth, items_depth}
-use Rattle.serde_json.specs.View.{items_of}
-use Rattle.ocds_merge.specs.Identified.{text_id, id_of, all_have_id, is_id_list}
-use Rattle.ocds_merge.specs.Merge.{object_run, id_list_run, column_at, items_ahead, items_in, ids_in, names_in, merge_names, merge_objects, merge_item, merge_items, merge_level, merge_within, deepest_of, merge_newest_first, merge_of}
-use Rattle.ocds_merge.specs.Inside.Step.{items_list, object_of, id_list_of, find_item, set_item, step, step_items, step_members, not_null}
-use Rattle.ocds_merge.specs.Laws.{IsProper, AreItemsProper}
+use Rattle.ocds_merge.proofs.Names.{◌≡◌, ◌<◌, ◌≤◌, ℕ, zero, suc, max, List, [], ◌∷◌, ◌++◌, map, filter, reverse, Bool, true, false, cond, ◌&&◌, ◌||◌, Option, Some, None, is_some, unwrap_or, refl, sym, ap, ◌∙◌, arith, bytes_eq, true≢false, list_any, le-max_left, le-max_right, map-append, reverse-append, Data, null, boolean, number, string, array, object, Items, no_items, item, Members, no_members, depth, items_depth, items_of, text_id, id_of, all_have_id, is_id_list, object_run, id_list_run, column_at, items_ahead, items_in, ids_in, names_in, merge_names, merge_objects, merge_item, merge_items, merge_level, merge_within, deepest_of, merge_newest_first, merge_of, items_list, object_of, id_list_of, find_item, set_item, step, step_items, step_members, not_null, IsProper, AreItemsProper}
 use Rattle.ocds_merge.proofs.ObjectLaw.{Below, AllBelow, column_below, objects_below, Steps, objects_law}
 use Rattle.ocds_merge.proofs.ItemLaw.{HaveIds, among, has, tied, among_self, among_onto, none_of, filter_below, empty_to, picked, distinct_ids, named_all, Named, Changes, map_apart, find_map, set_none, set_map}
 

@@ -1,10 +1,5 @@
 -- The digits of a decimal numeral.
-use Rattle.std.proofs.Common.{◌≡◌, ℕ, ◌^◌, ◌<◌, ◌≤◌, List, ◌++◌, length, take, drop, get_or, decimal, refl, sym, ap, ◌∙◌, subst, arith}
-use Rattle.std.proofs.lemmas.List.{take-append-drop, length-take-le, get_or-take}
-use Rattle.std.proofs.lemmas.Int.Digits.{digits_value-lt}
-use Rattle.std.proofs.lemmas.Str.Parse.{IsNumeralModel}
-use Rattle.std.proofs.lemmas.Fmt.{decimal-digits_value}
-use Rattle.std.specs.Str.Parse.{AllDigits, digits_value}
+use Rattle.ocds_merge.proofs.Names.{◌≡◌, ℕ, ◌^◌, ◌<◌, ◌≤◌, List, ◌++◌, length, take, drop, get_or, decimal, refl, sym, ap, ◌∙◌, subst, arith, take-append-drop, length-take-le, get_or-take, digits_value-lt, IsNumeralModel, decimal-digits_value, AllDigits, digits_value}
 use Rattle.ocds_merge.proofs.ScanLaw.{Each, each_sound}
 
 abbrev Fits : ℕ → Type 0

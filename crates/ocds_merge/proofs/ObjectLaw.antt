@@ -1,20 +1,5 @@
 -- Objects: the value that a merge has at a name, and one more object.
-use Rattle.std.proofs.Common.{◌≡◌, ◌<◌, ℕ, suc, List, [], ◌∷◌, ◌++◌, Bool, true, false, cond, ◌||◌, Option, Some, None, option_to_list, Ordering, Less, Equal, Greater, refl, sym, ap, ◌∙◌, subst, arith, bytes_eq, true≢false}
-use Rattle.std.specs.List.{list_any, AllByRecursion}
-use Rattle.std.specs.List.Sorted.{IsStrictlySortedBy}
-use Rattle.std.specs.Ordering.{match_ordering}
-use Rattle.std.proofs.Math.Nat.{le-max_left, le-max_right}
-use Rattle.std.proofs.lemmas.Slice.Eq.{bytes_eq-Decides}
-use Rattle.std.proofs.lemmas.List.Folds.{list_any-append}
-use Rattle.std.proofs.lemmas.Map.Keys.{sorted_head, sorted_tail}
-use Rattle.std.proofs.lemmas.Cmp.{nat_list_cmp_total, tied_itself}
-use Rattle.serde_json.specs.Data.{Data, null, boolean, number, string, array, object, Members, no_members, member, depth, members_depth}
-use Rattle.serde_json.specs.Find.{get_member}
-use Rattle.serde_json.proofs.Views.{get_member-put}
-use Rattle.ocds_merge.specs.Merge.{object_run, column_at, names_of, names_in, put_present, merge_names, merge_objects}
-use Rattle.ocds_merge.specs.Compile.{members_without}
-use Rattle.ocds_merge.specs.Inside.Step.{step, step_members}
-use Rattle.ocds_merge.specs.Laws.{IsProper, AreMembersProper}
+use Rattle.ocds_merge.proofs.Names.{◌≡◌, ◌<◌, ℕ, suc, List, [], ◌∷◌, ◌++◌, Bool, true, false, cond, ◌||◌, Option, Some, None, option_to_list, Ordering, Less, Equal, Greater, refl, sym, ap, ◌∙◌, subst, arith, bytes_eq, true≢false, list_any, AllByRecursion, IsStrictlySortedBy, match_ordering, le-max_left, le-max_right, bytes_eq-Decides, list_any-append, sorted_head, sorted_tail, nat_list_cmp_total, tied_itself, Data, null, boolean, number, string, array, object, Members, no_members, member, depth, members_depth, get_member, get_member-put, object_run, column_at, names_of, names_in, put_present, merge_names, merge_objects, members_without, step, step_members, IsProper, AreMembersProper}
 use Rattle.ocds_merge.proofs.MemberLemmas.{bytes_cmp, IsSorted, same_members, skips, get_delete, get_delete_other, sorted_delete, sorted_put_some, get_put_some, get_put_some_other}
 
 -- each value nests less than `n` levels

@@ -1,12 +1,5 @@
 -- The order of the releases: no later date before an earlier one, and releases of one date in their previous order.
-use Rattle.std.proofs.Common.{◌≡◌, ℕ, List, [], ◌∷◌, filter, map, Bool, true, false, cond, Ordering, Less, Equal, Greater, refl, sym, ap, ◌∙◌, true≢false}
-use Rattle.std.specs.Ordering.{match_ordering, is_lt, ordering_reverse}
-use Rattle.std.proofs.lemmas.Slice.Eq.{bytes_eq-Decides}
-use Rattle.std.proofs.lemmas.Cmp.{nat_list_cmp_total, tied_itself}
-use Rattle.serde_json.specs.Data.{Data}
-use Rattle.ocds_merge.specs.Merge.{merge_or_null}
-use Rattle.ocds_merge.specs.Compile.{date_of, insert_by_date, date_order, last_date, body_of, with_head, compiled_release}
-use Rattle.ocds_merge.specs.Laws.{IsInDateOrder, is_dated}
+use Rattle.ocds_merge.proofs.Names.{◌≡◌, ℕ, List, [], ◌∷◌, filter, map, Bool, true, false, cond, Ordering, Less, Equal, Greater, refl, sym, ap, ◌∙◌, true≢false, match_ordering, is_lt, ordering_reverse, bytes_eq-Decides, nat_list_cmp_total, tied_itself, Data, merge_or_null, date_of, insert_by_date, date_order, last_date, body_of, with_head, compiled_release, IsInDateOrder, is_dated}
 use Rattle.ocds_merge.proofs.MemberLemmas.{bytes_cmp}
 
 abbrev date_cmp : Data → Data → Ordering

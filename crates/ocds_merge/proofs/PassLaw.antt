@@ -1,13 +1,7 @@
 -- The value at the front of a text, decided by its first byte.
-use Rattle.std.proofs.Common.{◌≡◌, ◌==◌, ℕ, ◌+◌, ◌-◌, ◌≤◌, suc, List, [], ◌∷◌, ◌++◌, Bool, true, false, Greater, refl, sym, ap, ◌∙◌, subst, arith, length, append_assoc}
-use Rattle.std.proofs.lemmas.List.{length-append}
-use Rattle.std.specs.Prelude.{IsTrue}
-use Rattle.json.specs.Print.{escape, quoted}
-use Rattle.serde_json.specs.Data.{Data, string, array, object, Items, no_items, item, Members, no_members, member, depth, items_depth, members_depth}
-use Rattle.serde_json.specs.Written.{compact_text, items_text, members_text, comma_if}
-use Rattle.ocds_merge.specs.Inside.Scan.{scan, between, IsPlain, AllStandForThemselves}
-use Rattle.ocds_merge.specs.Inside.Splice.{TextIsKept, AllAbove, EndsBefore, no_comma}
-use Rattle.ocds_merge.specs.Inside.Readable.{AllAfter, Passed, ItemsFrom, MembersFrom, NextMember, PassedItems, PassedMembers}
+use Rattle.ocds_merge.proofs.Names.{◌≡◌, ◌==◌, ℕ, ◌+◌, ◌-◌, ◌≤◌, suc, List, [], ◌∷◌, ◌++◌, Bool, true, false, Greater, refl, sym, ap, ◌∙◌, subst, arith, length, append_assoc, length-append, IsTrue, escape, quoted, Data, string, array, object, Items, no_items, item, Members, no_members, member, depth, items_depth, members_depth, compact_text, items_text, members_text, comma_if, scan, IsPlain, AllStandForThemselves, TextIsKept, AllAbove, EndsBefore, no_comma, AllAfter, ItemsFrom, MembersFrom, NextMember, PassedItems, PassedMembers}
+use Rattle.ocds_merge.specs.Inside.Scan.{between}
+use Rattle.ocds_merge.specs.Inside.Readable.{Passed}
 use Rattle.ocds_merge.proofs.MemberLemmas.{bytes_cmp}
 use Rattle.ocds_merge.proofs.PlainLaw.{plain_escape, plain_of}
 use Rattle.ocds_merge.proofs.SpliceLaw.{above_after, below_from_above, group_member, scan-value, scan-members, no_comma_members}

@@ -1,14 +1,5 @@
 -- Items one after another: an old item is copied, or merged with the new one of its id; the remaining new items come at the end.
-use Rattle.std.proofs.Common.{◌≡◌, ℕ, ◌<◌, ◌+◌, zero, suc, List, [], ◌∷◌, ◌++◌, Bool, true, false, Option, Some, None, is_some, map, take, drop, set, length, get_or, replicate, refl, sym, ap, ◌∙◌, subst, arith, bytes_eq, append_assoc, unwrap_or, true≢false}
-use Rattle.std.proofs.lemmas.Slice.Eq.{bytes_eq-Decides}
-use Rattle.serde_json.specs.Data.{Data, null, array, Items, no_items, item}
-use Rattle.serde_json.specs.View.{view, items_of, items_view}
-use Rattle.serde_json.specs.declared.value.Value.{Value}
-use Rattle.ocds_merge.specs.Identified.{id_of, text_id, all_have_id}
-use Rattle.ocds_merge.specs.Laws.{IsProper}
-use Rattle.ocds_merge.specs.Inside.Step.{Lacks, step, step_items, find_item, set_item, items_list, id_list_of}
-use Rattle.ocds_merge.specs.Inside.Pending.{HaveDistinctIds, alone, unless, pending, with_item, step_list}
-use Rattle.ocds_merge.specs.Inside.Splice.{TextIsKept, AreItemsKept}
+use Rattle.ocds_merge.proofs.Names.{◌≡◌, ℕ, ◌<◌, ◌+◌, zero, suc, List, [], ◌∷◌, ◌++◌, Bool, true, false, Option, Some, None, is_some, map, take, drop, set, length, get_or, replicate, refl, sym, ap, ◌∙◌, subst, arith, bytes_eq, append_assoc, unwrap_or, true≢false, bytes_eq-Decides, Data, null, array, Items, no_items, item, view, items_of, items_view, Value, id_of, text_id, all_have_id, IsProper, Lacks, step, step_items, find_item, set_item, items_list, id_list_of, HaveDistinctIds, alone, unless, pending, with_item, step_list, TextIsKept, AreItemsKept}
 use Rattle.ocds_merge.proofs.CodeLemmas.{lacks_push, lacks_find, lacks_set}
 use Rattle.ocds_merge.proofs.ItemLaw.{flipped}
 use Rattle.ocds_merge.proofs.IdLaw.{kept_id, first_id, other_ids}

@@ -1,14 +1,5 @@
 -- Places by id: the index of a list after a change of the list.
-use Rattle.std.proofs.Common.{◌≡◌, ◌<◌, ℕ, zero, suc, List, [], ◌∷◌, ◌++◌, map, set, length, get_or, Bool, true, false, cond, Option, Some, None, is_some, option_map, String, Global, refl, sym, ap, ◌∙◌, subst, arith, bytes_eq, true≢false}
-use Rattle.std.proofs.lemmas.List.{length-map, set-set, map-set, map-append}
-use Rattle.std.specs.BTreeMap.{BTreeMap, get_by_text}
-use Rattle.std.proofs.lemmas.Slice.Eq.{bytes_eq-Decides}
-use Rattle.serde_json.specs.Data.{Data, null}
-use Rattle.serde_json.specs.View.{view}
-use Rattle.serde_json.specs.declared.value.Value.{Value}
-use Rattle.ocds_merge.specs.Identified.{id_of}
-use Rattle.ocds_merge.specs.Inside.Step.{Lacks}
-use Rattle.ocds_merge.specs.Inside.Places.{IsPlaceOf, place_in, IsIndexOf, IndexServes}
+use Rattle.ocds_merge.proofs.Names.{◌≡◌, ◌<◌, ℕ, zero, suc, List, [], ◌∷◌, ◌++◌, map, set, length, get_or, Bool, true, false, cond, Option, Some, None, is_some, option_map, String, Global, refl, sym, ap, ◌∙◌, subst, arith, bytes_eq, true≢false, length-map, set-set, map-set, map-append, BTreeMap, get_by_text, bytes_eq-Decides, Data, null, view, Value, id_of, Lacks, IsPlaceOf, place_in, IsIndexOf, IndexServes}
 
 -- ---- places
 

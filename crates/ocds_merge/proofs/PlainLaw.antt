@@ -1,10 +1,5 @@
 -- Bytes of strings that need no escape.
-use Rattle.std.proofs.Common.{◌≡◌, ℕ, List, [], ◌∷◌, ◌++◌, refl, sym, ap, ◌∙◌, append_assoc}
-use Rattle.std.proofs.lemmas.Bool.{ne_eqb}
-use Rattle.std.proofs.lemmas.Grind.{flat_map-append}
-use Rattle.json.specs.Print.{escape_byte, escape}
-use Rattle.json.proofs.Printed.Strings.{escape_byte_plain}
-use Rattle.ocds_merge.specs.Inside.Scan.{scan, in_string, IsPlain, StandsForItself, AllStandForThemselves}
+use Rattle.ocds_merge.proofs.Names.{◌≡◌, ℕ, List, [], ◌∷◌, ◌++◌, refl, sym, ap, ◌∙◌, append_assoc, ne_eqb, flat_map-append, escape_byte, escape, escape_byte_plain, scan, in_string, IsPlain, StandsForItself, AllStandForThemselves}
 
 pub all_push : (s : List ℕ) (c : ℕ) → AllStandForThemselves s → StandsForItself c → AllStandForThemselves (s ++ c ∷ [])
 all_push [] c h k = (k, tt)

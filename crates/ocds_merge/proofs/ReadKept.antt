@@ -1,24 +1,7 @@
 -- A value that was read is in order, and a value in order is read back.
-use Rattle.std.proofs.Common.{◌≡◌, ℕ, ◌^◌, ◌<◌, ◌≤◌, zero, suc, max, pos, negsuc, neg_ℤ, List, [], Bool, true, false, cond, ◌&&◌, ◌==◌, Option, Some, None, option_map, option_and_then, Ordering, Less, Equal, Greater, refl, sym, ap, ap₂, ◌∙◌, subst, arith, get_or, nat_lt, nat_le, drop, append-nil, true≢false}
-use Rattle.std.specs.Prelude.{⊤}
-use Rattle.std.specs.Float.{binary64, float_is_finite}
-use Rattle.std.specs.Float.Numeral.{Parts, numeral_digits, nearest_float, scan_numeral}
-use Rattle.std.proofs.lemmas.Bool.{ltb-true, leb-true, or_parts}
-use Rattle.json.specs.Lex.{tokens}
+use Rattle.ocds_merge.proofs.Names.{◌≡◌, ℕ, ◌^◌, ◌<◌, ◌≤◌, zero, suc, max, pos, negsuc, neg_ℤ, List, [], Bool, true, false, cond, ◌&&◌, ◌==◌, Option, Some, None, option_map, option_and_then, Ordering, Less, Equal, Greater, refl, sym, ap, ap₂, ◌∙◌, subst, arith, get_or, nat_lt, nat_le, drop, append-nil, true≢false, ⊤, binary64, float_is_finite, Parts, numeral_digits, nearest_float, scan_numeral, ltb-true, leb-true, or_parts, tokens, IsNumber, match_ordering, json_tokens, HasNumbers, ItemsHaveNumbers, MembersHaveNumbers, IsNumber-decimal, IsNumber-signed_decimal, tokens-print, ArePrintable-json_tokens, value-json_tokens, Num, unsigned, negative, float, Data, null, boolean, number, string, array, object, Items, no_items, item, Members, no_members, member, put, depth, items_depth, members_depth, is_integer, float_of, number_from, number_of, of_json, of_items, of_members, read, max_depth, number_text, outline, items_outline, members_outline, compact_text, has_float, items_have_float, members_have_float, number_of-decimal, number_of-negative, print-outline, IsInRange, AllAbove, IsOrdered, TextIsKept, AreItemsKept, AreMembersKept}
 use Rattle.json.specs.Json as json
-use Rattle.json.specs.Print.{IsNumber}
-use Rattle.std.specs.Ordering.{match_ordering}
 use Rattle.json.specs.Tree as tree
-use Rattle.json.specs.Tree.{json_tokens, HasNumbers, ItemsHaveNumbers, MembersHaveNumbers}
-use Rattle.json.proofs.Printed.Decimals.{IsNumber-decimal, IsNumber-signed_decimal}
-use Rattle.json.proofs.Printed.Tokens.{tokens-print}
-use Rattle.json.proofs.Printed.Trees.{ArePrintable-json_tokens, value-json_tokens}
-use Rattle.serde_json.specs.Data.{Num, unsigned, negative, float, Data, null, boolean, number, string, array, object, Items, no_items, item, Members, no_members, member, put, depth, items_depth, members_depth}
-use Rattle.serde_json.specs.Read.{is_integer, float_of, number_from, number_of, of_json, of_items, of_members, read, max_depth}
-use Rattle.serde_json.specs.Written.{number_text, outline, items_outline, members_outline, compact_text, has_float, items_have_float, members_have_float}
-use Rattle.serde_json.proofs.Numbers.{number_of-decimal, number_of-negative}
-use Rattle.serde_json.proofs.Texts.{print-outline}
-use Rattle.ocds_merge.specs.Inside.Splice.{IsInRange, AllAbove, IsOrdered, TextIsKept, AreItemsKept, AreMembersKept}
 use Rattle.ocds_merge.proofs.MemberLemmas.{bytes_cmp}
 use Rattle.ocds_merge.proofs.IdLaw.{first_id, other_ids}
 use Rattle.ocds_merge.proofs.KeptStep.{put_ordered}

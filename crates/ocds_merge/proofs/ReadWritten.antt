@@ -1,12 +1,6 @@
 -- A text that was passed is read as the value whose text it is.
-use Rattle.std.proofs.Common.{◌≡◌, ℕ, ◌≤◌, List, [], ◌∷◌, ◌++◌, Option, Some, option_and_then, refl, sym, ap, ◌∙◌, arith, append-nil}
-use Rattle.serde_json.specs.Data.{Data, object, depth}
-use Rattle.serde_json.specs.Read.{read, max_depth}
-use Rattle.serde_json.specs.Written.{compact_text, has_float}
-use Rattle.ocds_merge.specs.Stored.{IsWrittenObject}
-use Rattle.ocds_merge.specs.Identified.{text_member}
-use Rattle.ocds_merge.specs.Inside.Splice.{TextIsKept, EndsBefore}
-use Rattle.ocds_merge.specs.Inside.Readable.{Passed, PassedMembers, Reads}
+use Rattle.ocds_merge.proofs.Names.{◌≡◌, ℕ, ◌≤◌, List, [], ◌∷◌, ◌++◌, Option, Some, option_and_then, refl, sym, ap, ◌∙◌, arith, append-nil, Data, object, depth, read, max_depth, compact_text, has_float, IsWrittenObject, text_member, TextIsKept, EndsBefore, PassedMembers, Reads}
+use Rattle.ocds_merge.specs.Inside.Readable.{Passed}
 use Rattle.ocds_merge.proofs.KeptLaw.{kept_plain}
 use Rattle.ocds_merge.proofs.ReadKept.{kept_reads, read_kept}
 use Rattle.ocds_merge.proofs.ReadLaw.{object_read}

@@ -1,9 +1,6 @@
 -- A scan passes over the compact text of a value.
-use Rattle.std.proofs.Common.{◌≡◌, ◌≢◌, ℕ, zero, suc, ◌<◌, ◌≤◌, List, [], ◌∷◌, ◌++◌, refl, sym, ap, ◌∙◌, ◌⊎◌, inl, inr, subst, arith, append_assoc}
-use Rattle.std.proofs.lemmas.Bool.{cases_eq, cases_lt, ne_eqb}
-use Rattle.json.specs.Print.{escape_byte, escape}
-use Rattle.json.proofs.Printed.Strings.{escape_byte_plain}
-use Rattle.ocds_merge.specs.Inside.Scan.{between, in_string, scan}
+use Rattle.ocds_merge.proofs.Names.{◌≡◌, ◌≢◌, ℕ, zero, suc, ◌<◌, ◌≤◌, List, [], ◌∷◌, ◌++◌, refl, sym, ap, ◌∙◌, ◌⊎◌, inl, inr, subst, arith, append_assoc, cases_eq, cases_lt, ne_eqb, escape_byte, escape, escape_byte_plain, in_string, scan}
+use Rattle.ocds_merge.specs.Inside.Scan.{between}
 
 -- ---- strings
 

@@ -1,16 +1,5 @@
 -- A merge is the merge of itself alone.
-use Rattle.std.proofs.Common.{◌≡◌, ◌<◌, ℕ, zero, suc, List, [], ◌∷◌, ◌++◌, map, filter, reverse, Bool, true, false, cond, ◌||◌, Option, Some, None, option_to_list, unwrap_or, refl, sym, ap, ◌∙◌, subst, arith, bytes_eq}
-use Rattle.std.specs.List.{list_any}
-use Rattle.std.proofs.lemmas.List.{append-nil, append_assoc}
-use Rattle.std.proofs.lemmas.List.Folds.{list_any-append}
-use Rattle.std.proofs.lemmas.Slice.Eq.{bytes_eq-Decides}
-use Rattle.serde_json.specs.Data.{Data, null, boolean, number, string, array, object, Items, Members, depth}
-use Rattle.serde_json.specs.Find.{get_member}
-use Rattle.serde_json.specs.View.{items_of}
-use Rattle.ocds_merge.specs.Identified.{id_of, is_id_list}
-use Rattle.ocds_merge.specs.Merge.{object_run, id_list_run, column_at, items_ahead, items_in, ids_in, names_in, merge_objects, merge_item, merge_items, merge_within, deepest_of, merge_newest_first, merge_of, merge_or_null}
-use Rattle.ocds_merge.specs.Inside.Step.{step}
-use Rattle.ocds_merge.specs.Laws.{IsProper}
+use Rattle.ocds_merge.proofs.Names.{◌≡◌, ◌<◌, ℕ, zero, suc, List, [], ◌∷◌, ◌++◌, map, filter, reverse, Bool, true, false, cond, ◌||◌, Option, Some, None, option_to_list, unwrap_or, refl, sym, ap, ◌∙◌, subst, arith, bytes_eq, list_any, append-nil, append_assoc, list_any-append, bytes_eq-Decides, Data, null, boolean, number, string, array, object, Items, Members, depth, get_member, items_of, id_of, is_id_list, object_run, id_list_run, column_at, items_ahead, items_in, ids_in, names_in, merge_objects, merge_item, merge_items, merge_within, deepest_of, merge_newest_first, merge_of, merge_or_null, step, IsProper}
 use Rattle.ocds_merge.proofs.MemberLemmas.{same_members}
 use Rattle.ocds_merge.proofs.ObjectLaw.{Below, column_below, objects_below, get_objects, sorted_names, or_left, or_right}
 use Rattle.ocds_merge.proofs.ItemLaw.{HaveIds, Kept, has, tied, flipped, filter_below, empty_to, picked, Distinct, distinct_ids, Named}

@@ -1,17 +1,5 @@
 -- A stable sort by dates gives the order of the releases: only one list is in order and has the same releases of each date.
-use Rattle.std.proofs.Common.{◌≡◌, ◌+◌, ℕ, suc, List, [], ◌∷◌, map, filter, get_or, Bool, true, false, cond, not, ◌&&◌, Ordering, Less, Equal, Greater, ◌⊎◌, inl, inr, refl, sym, ap, ◌∙◌, subst, arith, true≢false}
-use Rattle.std.specs.Cmp.{IsStrictWeakOrder}
-use Rattle.std.specs.Ordering.{is_lt, is_eq, ordering_reverse}
-use Rattle.std.specs.List.Sorted.{IsSortedBy, IsStableBy, ties}
-use Rattle.std.proofs.lemmas.Bool.{cond-true, cond-false, cases_Bool}
-use Rattle.std.proofs.lemmas.Cmp.{nat_list_cmp_total, tied_itself}
-use Rattle.std.proofs.lemmas.Map.Text.{is_eq-slice_cmp}
-use Rattle.std.proofs.lemmas.List.Sorted.{ranks_by}
-use Rattle.std.proofs.lemmas.Map.Lookups.{exact_bytes}
-use Rattle.std.proofs.lemmas.Slice.Eq.{bytes_eq-Decides}
-use Rattle.serde_json.specs.Data.{Data}
-use Rattle.ocds_merge.specs.Compile.{date_of, date_order}
-use Rattle.ocds_merge.specs.Laws.{IsInDateOrder, is_dated}
+use Rattle.ocds_merge.proofs.Names.{◌≡◌, ◌+◌, ℕ, suc, List, [], ◌∷◌, map, filter, get_or, Bool, true, false, cond, not, ◌&&◌, Ordering, Less, Equal, Greater, ◌⊎◌, inl, inr, refl, sym, ap, ◌∙◌, subst, arith, true≢false, IsStrictWeakOrder, is_lt, is_eq, ordering_reverse, IsSortedBy, IsStableBy, ties, cond-true, cond-false, cases_Bool, nat_list_cmp_total, tied_itself, is_eq-slice_cmp, ranks_by, exact_bytes, bytes_eq-Decides, Data, date_of, date_order, IsInDateOrder, is_dated}
 use Rattle.ocds_merge.proofs.MemberLemmas.{bytes_cmp}
 use Rattle.ocds_merge.proofs.OrderLaw.{tail_ordered, ordered, stable}
 

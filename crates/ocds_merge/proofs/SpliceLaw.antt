@@ -1,25 +1,8 @@
 -- The members and items of a merge, in the order in which a text is read.
-use Rattle.std.proofs.Common.{◌≡◌, ◌≢◌, ℕ, ◌+◌, ◌-◌, ◌<◌, List, [], ◌∷◌, ◌++◌, Bool, true, false, Option, Some, None, Less, Equal, Greater, refl, sym, ap, ◌∙◌, subst, append_assoc, decimal, arith, length, cond, ◌==◌, pos, negsuc, suc, ◌⊎◌, inl, inr, ◌≤◌, Ordering, MatchOption, unwrap_or}
-use Rattle.std.specs.Ordering.{ordering_reverse}
-use Rattle.std.proofs.lemmas.List.{length-append}
-use Rattle.std.proofs.lemmas.Cmp.{nat_list_cmp_total, tied_itself}
-use Rattle.std.proofs.lemmas.Map.Lookups.{exact_bytes}
-use Rattle.std.proofs.lemmas.Fmt.{decimal_is_IsNumeral}
-use Rattle.std.proofs.lemmas.Bool.{ne_eqb, cases_eq, cases_lt}
-use Rattle.std.specs.Str.Parse.{AllDigits}
-use Rattle.std.specs.Char.{digit_value}
-use Rattle.json.specs.Print.{escape_byte, escape, quoted}
-use Rattle.serde_json.specs.Data.{Num, unsigned, negative, float, Data, null, boolean, number, string, array, object, Items, no_items, item, Members, no_members, member, put}
-use Rattle.serde_json.specs.Find.{get_member}
-use Rattle.serde_json.specs.Written.{compact_text, items_text, members_text, number_text, comma_if, has_float}
-use Rattle.json.proofs.Printed.Strings.{escape_byte_plain}
-use Rattle.ocds_merge.specs.Merge.{put_present}
-use Rattle.ocds_merge.specs.Compile.{members_without}
-use Rattle.ocds_merge.specs.Inside.Scan.{scan, between, in_string, IsPlain}
-use Rattle.ocds_merge.specs.Inside.Step.{step, step_members}
-use Rattle.ocds_merge.specs.Inside.Splice.{IsInRange, AllAbove, IsOrdered, TextIsKept, AreItemsKept, AreMembersKept, EndsBefore, no_comma, StandAt, StartsFrom, SameText, Passed}
+use Rattle.ocds_merge.proofs.Names.{◌≡◌, ◌≢◌, ℕ, ◌+◌, ◌-◌, ◌<◌, List, [], ◌∷◌, ◌++◌, Bool, true, false, Option, Some, None, Less, Equal, Greater, refl, sym, ap, ◌∙◌, subst, append_assoc, decimal, arith, length, cond, ◌==◌, pos, negsuc, suc, ◌⊎◌, inl, inr, ◌≤◌, Ordering, MatchOption, unwrap_or, ordering_reverse, length-append, nat_list_cmp_total, tied_itself, exact_bytes, decimal_is_IsNumeral, ne_eqb, cases_eq, cases_lt, AllDigits, digit_value, escape_byte, escape, quoted, Num, unsigned, negative, float, Data, null, boolean, number, string, array, object, Items, no_items, item, Members, no_members, member, put, get_member, compact_text, items_text, members_text, number_text, comma_if, has_float, escape_byte_plain, put_present, members_without, scan, in_string, IsPlain, step, step_members, IsInRange, AllAbove, IsOrdered, TextIsKept, AreItemsKept, AreMembersKept, EndsBefore, no_comma, StandAt, StartsFrom, SameText, IsProper}
+use Rattle.ocds_merge.specs.Inside.Scan.{between}
+use Rattle.ocds_merge.specs.Inside.Splice.{Passed}
 use Rattle.ocds_merge.proofs.MemberLemmas.{bytes_cmp, here}
-use Rattle.ocds_merge.specs.Laws.{IsProper}
 use Rattle.ocds_merge.proofs.MergeLaw.{merged_law}
 use Rattle.ocds_merge.proofs.StorableLaw.{OptPlain, or_null_plain, merged_plain}
 use Rattle.ocds_merge.proofs.ScanLaw.{scan-escape, Each, each_sound}

@@ -1,17 +1,5 @@
 -- A merge nests no deeper than its values, and has a float only if one of them has.
-use Rattle.std.proofs.Common.{◌≡◌, ◌<◌, ◌≤◌, ℕ, zero, suc, max, List, All, [], ◌∷◌, ◌++◌, map, filter, reverse, Bool, true, false, cond, ◌||◌, Option, Some, None, option_to_list, unwrap_or, Ordering, Less, Equal, Greater, refl, sym, subst, arith, codes}
-use Rattle.std.specs.Ordering.{match_ordering}
-use Rattle.std.proofs.lemmas.List.{reverse-append}
-use Rattle.std.proofs.Math.Nat.{le-max_left, le-max_right, max-le}
-use Rattle.serde_json.specs.Data.{Data, null, boolean, number, string, array, object, Items, no_items, item, Members, no_members, member, put, depth, items_depth, members_depth}
-use Rattle.serde_json.specs.Find.{get_member}
-use Rattle.serde_json.specs.View.{items_of}
-use Rattle.serde_json.specs.Written.{has_float, items_have_float, members_have_float}
-use Rattle.ocds_merge.specs.Identified.{is_id_list}
-use Rattle.ocds_merge.specs.Merge.{object_run, id_list_run, column_at, items_ahead, items_in, ids_in, names_in, put_present, merge_names, merge_item, merge_items, merge_within, deepest_of, merge_of, merge_or_null}
-use Rattle.ocds_merge.specs.Compile.{members_without, body_of}
-use Rattle.ocds_merge.specs.Stored.{IsStorable}
-use Rattle.serde_json.specs.Read.{max_depth}
+use Rattle.ocds_merge.proofs.Names.{◌≡◌, ◌<◌, ◌≤◌, ℕ, zero, suc, max, List, All, [], ◌∷◌, ◌++◌, map, filter, reverse, Bool, true, false, cond, ◌||◌, Option, Some, None, option_to_list, unwrap_or, Ordering, Less, Equal, Greater, refl, sym, subst, arith, codes, match_ordering, reverse-append, le-max_left, le-max_right, max-le, Data, null, boolean, number, string, array, object, Items, no_items, item, Members, no_members, member, put, depth, items_depth, members_depth, get_member, items_of, has_float, items_have_float, members_have_float, is_id_list, object_run, id_list_run, column_at, items_ahead, items_in, ids_in, names_in, put_present, merge_names, merge_item, merge_items, merge_within, deepest_of, merge_of, merge_or_null, members_without, body_of, IsStorable, max_depth}
 use Rattle.ocds_merge.proofs.MemberLemmas.{bytes_cmp}
 use Rattle.ocds_merge.proofs.ObjectLaw.{Below, column_below, objects_below, or_left, or_right}
 use Rattle.ocds_merge.proofs.ItemLaw.{has, filter_below}

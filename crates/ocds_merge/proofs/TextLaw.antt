@@ -1,14 +1,5 @@
 -- The text after a merge into a stored text.
-use Rattle.std.proofs.Common.{◌≡◌, List, ℕ, [], ◌∷◌, ◌++◌, Option, Some, None, refl, sym, ap, ◌∙◌, subst, unwrap_or, All, arith}
-use Rattle.std.proofs.lemmas.List.{get_or_append_left, length-append}
-use Rattle.serde_json.specs.Data.{Data, null, boolean, number, string, array, object}
-use Rattle.serde_json.specs.Read.{read}
-use Rattle.serde_json.specs.Written.{compact_text}
-use Rattle.ocds_merge.specs.Merge.{merge_or_null}
-use Rattle.ocds_merge.specs.Stored.{KeepsMerge, IsStorable}
-use Rattle.ocds_merge.specs.Inside.Step.{step, not_null}
-use Rattle.ocds_merge.specs.Inside.Splice.{TextIsKept}
-use Rattle.ocds_merge.specs.Inside.Readable.{Reads}
+use Rattle.ocds_merge.proofs.Names.{◌≡◌, List, ℕ, [], ◌∷◌, ◌++◌, Option, Some, None, refl, sym, ap, ◌∙◌, subst, unwrap_or, All, arith, get_or_append_left, length-append, Data, null, boolean, number, string, array, object, read, compact_text, merge_or_null, KeepsMerge, IsStorable, step, not_null, TextIsKept, Reads}
 use Rattle.ocds_merge.proofs.MergeLaw.{merged_law, merged_not_null}
 use Rattle.ocds_merge.proofs.StorableLaw.{merge_shallow, merge_no_float}
 use Rattle.ocds_merge.proofs.KeptLaw.{kept_proper}

@@ -1,12 +1,5 @@
 -- The release of each event can be stored as text and read back.
-use Rattle.std.proofs.Common.{◌≡◌, ℕ, refl, arith}
-use Rattle.office_values.specs.Moments.{moment_text}
-use Rattle.office_values.specs.declared.settings.Publisher.{Publisher}
-use Rattle.ocds_merge.specs.Compile.{date_of}
-use Rattle.ocds_merge.specs.Stored.{IsStorable}
-use Rattle.ocds_release.specs.Events.{release_of_event}
-use Rattle.ocds_release.specs.declared.event.Event.{Event}
-use Rattle.ocds_release.specs.declared.event.Event.TheVariants.{Publish, Open, Cancel}
+use Rattle.ocds_release.proofs.Names.{◌≡◌, ℕ, refl, arith, moment_text, Publisher, date_of, IsStorable, release_of_event, Event, Publish, Open, Cancel}
 use Rattle.ocds_release.proofs.Keepable.{IsKeepable, storable}
 use Rattle.ocds_release.proofs.ListedEvents.{publish_keepable, open_keepable, cancel_keepable}
 

@@ -1,10 +1,5 @@
 -- The member of a name stays as it is while members of other names are put.
-use Rattle.std.proofs.Common.{◌≡◌, ℕ, List, [], ◌∷◌, Bool, true, false, ◌||◌, refl, sym, ◌∙◌, true≢false, cond, bytes_eq}
-use Rattle.std.proofs.lemmas.Slice.Eq.{bytes_eq-Decides}
-use Rattle.serde_json.specs.Data.{Data, Members, put}
-use Rattle.serde_json.specs.Find.{get_member}
-use Rattle.serde_json.proofs.Views.{get_member-put_other}
-use Rattle.ocds_release.specs.Objects.{Entry, is_empty_list, with_entries}
+use Rattle.ocds_release.proofs.Names.{◌≡◌, ℕ, List, [], ◌∷◌, Bool, true, false, ◌||◌, refl, sym, ◌∙◌, true≢false, cond, bytes_eq, bytes_eq-Decides, Data, Members, put, get_member, get_member-put_other, Entry, is_empty_list, with_entries}
 use Rattle.ocds_release.proofs.Flat.{not_first, not_second}
 
 -- whether one of these entries has this name

@@ -1,12 +1,5 @@
 -- Values without floats that nest at most `n` levels: the values of which releases are made, builder by builder.
-use Rattle.std.proofs.Common.{◌≡◌, ◌≤◌, ℕ, suc, List, [], ◌∷◌, ◌++◌, map, Bool, true, false, ◌||◌, Ordering, Less, Equal, Greater, nat_cmp, refl, arith, true≢false, cond}
-use Rattle.std.specs.Ordering.{match_ordering}
-use Rattle.std.specs.Cmp.Lexicographic.{slice_cmp}
-use Rattle.std.proofs.Math.Nat.{le-max_left, le-max_right, max-le}
-use Rattle.serde_json.specs.Data.{Data, number, unsigned, object, Items, Members, no_members, member, put, depth, items_depth, members_depth}
-use Rattle.serde_json.specs.View.{items_of}
-use Rattle.serde_json.specs.Written.{has_float, items_have_float, members_have_float}
-use Rattle.ocds_release.specs.Objects.{Entry, is_empty_list, put_unless_empty, with_entries, object_of, text, array_of, texts, money, reference}
+use Rattle.ocds_release.proofs.Names.{◌≡◌, ◌≤◌, ℕ, suc, List, [], ◌∷◌, ◌++◌, map, Bool, true, false, ◌||◌, Ordering, Less, Equal, Greater, nat_cmp, refl, arith, true≢false, cond, match_ordering, slice_cmp, le-max_left, le-max_right, max-le, Data, number, unsigned, object, Items, Members, no_members, member, put, depth, items_depth, members_depth, items_of, has_float, items_have_float, members_have_float, Entry, is_empty_list, put_unless_empty, with_entries, object_of, text, array_of, texts, money, reference}
 
 -- the value has no float, and nests at most `n` levels
 pub record IsFlat (n : ℕ) (v : Data) : Type 0 where

@@ -1,14 +1,6 @@
 -- Each release can be stored as text: it has no float, nests at most seven levels, and has the date of its event's moment.
-use Rattle.std.proofs.Common.{◌≡◌, ℕ, List, [], codes, false, ap, arith}
-use Rattle.std.specs.Prelude.{unwrap_or, option_and_then}
-use Rattle.serde_json.specs.Data.{Data}
-use Rattle.serde_json.specs.Find.{as_str}
-use Rattle.office_values.specs.Moments.{moment_text}
-use Rattle.office_values.specs.declared.settings.Publisher.{Publisher}
-use Rattle.ocds_merge.specs.Compile.{date_of}
-use Rattle.ocds_merge.specs.Stored.{IsStorable}
-use Rattle.ocds_release.specs.Objects.{Entry}
-use Rattle.ocds_release.specs.Releases.{head_of, head_members, release}
+use Rattle.ocds_release.proofs.Names.{◌≡◌, ℕ, List, [], codes, false, ap, arith, unwrap_or, option_and_then, Data, as_str, moment_text, Publisher, date_of, IsStorable, Entry, head_of, release}
+use Rattle.ocds_release.specs.Releases.{head_members}
 use Rattle.ocds_release.proofs.Flat.{IsFlat, AreEntriesFlat, AreMembersFlat, text_flat, reference_flat, members_flat, entries_flat, inside_flat}
 use Rattle.ocds_release.proofs.Dated.{has_name, stays}
 

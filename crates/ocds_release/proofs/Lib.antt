@@ -1,3 +1,4 @@
+pub mod Names
 pub mod EmptyLists
 pub mod LotOrder
 pub mod PackageTexts

@@ -1,24 +1,8 @@
 -- The releases with lists of their events: publications, openings and cancellations. Each can be stored as text.
-use Rattle.std.proofs.Common.{ℕ, List, [], ◌∷◌, codes, map, length, refl, arith}
-use Rattle.serde_json.specs.Data.{number, unsigned}
-use Rattle.office_values.specs.declared.settings.Publisher.{Publisher}
-use Rattle.office_commands.specs.declared.item.Item.{Item}
-use Rattle.office_commands.specs.declared.lot.NewLot.{NewLot}
-use Rattle.office_base.specs.Sums.{sum_over}
-use Rattle.ocds_release.specs.LotsInOrder.{lots_in_order}
-use Rattle.ocds_release.specs.Amendments.{amendment}
-use Rattle.ocds_release.specs.Awards.{ended_award}
-use Rattle.ocds_release.specs.Tenders.{tender_members}
-use Rattle.ocds_release.specs.TenderStatuses.{status_code}
-use Rattle.ocds_release.specs.Tenderers.{Tenderer}
-use Rattle.ocds_release.specs.Objects.{Entry, text, array_of, four_digit_id, money}
-use Rattle.ocds_release.specs.Releases.{release, tags}
+use Rattle.ocds_release.proofs.Names.{ℕ, List, [], ◌∷◌, codes, map, length, refl, arith, number, unsigned, Publisher, Item, NewLot, sum_over, lots_in_order, amendment, ended_award, tender_members, status_code, Tenderer, Entry, text, array_of, four_digit_id, money, release, tags, Published, Opened, NoticeCancelled}
 use Rattle.ocds_release.specs.Events.Publish as publish
 use Rattle.ocds_release.specs.Events.Open as opening
 use Rattle.ocds_release.specs.Events.Cancel as cancel
-use Rattle.ocds_release.specs.declared.event.Published.{Published}
-use Rattle.ocds_release.specs.declared.event.Opened.{Opened}
-use Rattle.ocds_release.specs.declared.event.NoticeCancelled.{NoticeCancelled}
 use Rattle.ocds_release.proofs.Flat.{IsFlat, AreFlat, AreMembersFlat, text_flat, texts_flat, number_flat, money_flat, list_flat, each_flat, both_flat, members_flat, entries_flat, filled_flat, object_flat, inside_flat}
 use Rattle.ocds_release.proofs.Keepable.{IsKeepable, release_keepable}
 

@@ -1,12 +1,5 @@
 -- Lots in the order of their identifiers.
-use Rattle.std.proofs.Common.{◌≡◌, ◌<◌, ◌≤◌, ℕ, zero, suc, List, [], ◌∷◌, ◌++◌, map, take, length, get_or, true, false, Ordering, Less, Equal, Greater, refl, sym, ap, ◌∙◌, arith, true≢false, Bor}
-use Rattle.std.specs.List.{insert}
-use Rattle.std.specs.Ordering.{match_ordering, is_lt}
-use Rattle.office_values.specs.Ids.{id_cmp}
-use Rattle.office_commands.specs.Lots.{lot_id}
-use Rattle.office_commands.specs.declared.lot.NewLot.{NewLot}
-use Rattle.ocds_release.specs.LotsInOrder.{insert_by_id}
-use Rattle.ocds_release.specs.Inside.Earlier.{AreEarlier}
+use Rattle.ocds_release.proofs.Names.{◌≡◌, ◌<◌, ◌≤◌, ℕ, zero, suc, List, [], ◌∷◌, ◌++◌, map, take, length, get_or, true, false, Ordering, Less, Equal, Greater, refl, sym, ap, ◌∙◌, arith, true≢false, Bor, insert, match_ordering, is_lt, id_cmp, lot_id, NewLot, insert_by_id, AreEarlier}
 
 pub earlier_push : (id : List ℕ) (ds : List (List ℕ)) (d : List ℕ) → AreEarlier id ds → is_lt (id_cmp d id) ≡ true → AreEarlier id (ds ++ d ∷ [])
 earlier_push id [] d h e = (e, tt)

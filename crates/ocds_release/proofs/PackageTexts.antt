@@ -1,19 +1,5 @@
 -- The texts of packages, member by member.
-use Rattle.std.proofs.Common.{◌≡◌, ◌<◌, ◌-◌, ℕ, zero, suc, List, [], ◌∷◌, ◌++◌, map, length, get_or, Bool, true, false, if◌then◌else◌, ◌==◌, refl, sym, ap, ◌∙◌, arith, rules, codes, true≢false}
-use Rattle.std.proofs.lemmas.List.{append_assoc}
-use Rattle.json.specs.Print.{quoted}
-use Rattle.serde_json.specs.Data.{Data, null, array, Items, item, object, Members, member, no_members, put}
-use Rattle.serde_json.specs.View.{items_of}
-use Rattle.serde_json.specs.Written.{compact_text, comma_if, items_text, members_text, has_float, items_have_float}
-use Rattle.office_values.specs.Moments.{moment_text}
-use Rattle.office_base.specs.declared.records.ReleaseRow.{ReleaseRow}
-use Rattle.ocds_merge.specs.Compile.{date_of, last_date}
-use Rattle.ocds_release.specs.Objects.{text, texts, with_entries, is_empty_list}
-use Rattle.ocds_release.specs.KeptReleases.{AreKept}
-use Rattle.ocds_release.specs.Inside.Parts.{data_of}
-use Rattle.ocds_release.specs.Inside.Splicing.{member_text, with_extensions}
-use Rattle.ocds_release.specs.Opened.{moment_of, moment_of_last, spliced}
-use Rattle.ocds_release.specs.declared.part.Part.{Part}
+use Rattle.ocds_release.proofs.Names.{◌≡◌, ◌<◌, ◌-◌, ℕ, zero, suc, List, [], ◌∷◌, ◌++◌, map, length, get_or, Bool, true, false, if◌then◌else◌, ◌==◌, refl, sym, ap, ◌∙◌, arith, rules, codes, true≢false, append_assoc, quoted, Data, null, array, Items, item, object, Members, member, no_members, put, items_of, compact_text, comma_if, items_text, members_text, has_float, items_have_float, moment_text, ReleaseRow, date_of, last_date, text, texts, with_entries, is_empty_list, AreKept, data_of, member_text, with_extensions, moment_of, moment_of_last, spliced, Part}
 use Rattle.ocds_release.specs.declared.part.Part.TheVariants as parts
 
 -- ---- no part is a float

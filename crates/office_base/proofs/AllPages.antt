@@ -1,18 +1,5 @@
 -- A table that is read page by page is read completely, each row once.
-use Rattle.std.specs.Prelude.{◌≡◌, ◌≤◌, ◌<◌, ◌+◌, ◌-◌, ℕ, zero, suc, Bool, true, false, cond, not, nat_lt, List, [], ◌∷◌, ◌++◌, length, take, drop, filter, slice_get, Option, Some, None, option_map}
-use Rattle.std.proofs.Common.{inl, inr, refl, sym, ap, subst, ◌∙◌, arith}
-use Rattle.std.proofs.lemmas.Bool.{cases_Bool, ltb-true, ltb-false}
-use Rattle.std.proofs.lemmas.List.{append-nil, take_all, take-append-drop, length-take, length-drop, nil_from_length}
-use Rattle.std.proofs.lemmas.Option.{slice_get_cases}
-use Rattle.std.specs.Cmp.{IsTotalOrder}
-use Rattle.std.specs.Cmp.Lexicographic.{nat_list_cmp_total}
-use Rattle.std.specs.Ordering.{is_lt, ordering_reverse}
-use Rattle.std.specs.declared.cmp.Ordering.{Ordering}
-use Rattle.std.specs.declared.cmp.Ordering.TheVariants.{Less, Equal, Greater}
-use Rattle.std.specs.List.{AllByRecursion}
-use Rattle.office_base.specs.Rows.{StartsAbove, IsInOrder}
-use Rattle.office_base.specs.Tables.{notice_key, tenderer_key}
-use Rattle.office_base.specs.Pages.{is_after, rows_after, next_after, followed, read_pages, PagesAreAll, TablesArePaged}
+use Rattle.office_base.proofs.Names.{◌≡◌, ◌≤◌, ◌<◌, ◌+◌, ◌-◌, ℕ, zero, suc, Bool, true, false, cond, nat_lt, List, [], ◌∷◌, ◌++◌, length, take, drop, filter, slice_get, Option, Some, None, option_map, inl, inr, refl, sym, ap, subst, ◌∙◌, arith, cases_Bool, ltb-true, ltb-false, append-nil, take_all, take-append-drop, length-take, length-drop, nil_from_length, slice_get_cases, IsTotalOrder, nat_list_cmp_total, is_lt, ordering_reverse, Ordering, Less, Equal, Greater, AllByRecursion, StartsAbove, IsInOrder, notice_key, tenderer_key, is_after, rows_after, next_after, followed, read_pages, PagesAreAll, TablesArePaged}
 use Rattle.office_base.proofs.Orders.{same_key}
 
 lt_is : (c : Ordering) → c ≡ Less → is_lt c ≡ true

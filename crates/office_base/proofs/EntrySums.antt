@@ -1,16 +1,5 @@
 -- The sums that are added up entry by entry are the sums of the contract.
-use Rattle.std.specs.Prelude.{◌≡◌, ℕ, ◌+◌, Bool, true, false, cond, ◌&&◌, List, [], ◌∷◌, filter}
-use Rattle.std.proofs.Common.{refl, sym, ap, ◌∙◌, arith}
-use Rattle.office_base.specs.EntryKinds.{is_raise, is_payment, is_less}
-use Rattle.office_base.specs.EntrySums.{bare_sums, sums_with_entry, sums_with_entries}
-use Rattle.office_base.specs.Sums.{sum_over}
-use Rattle.office_base.specs.Tables.{same_number}
-use Rattle.office_base.specs.Joined.{entry_sum, sums_of}
-use Rattle.office_base.specs.declared.ledger.ContractSums.{ContractSums}
-use Rattle.office_base.specs.declared.records.ContractRow.{ContractRow}
-use Rattle.office_base.specs.declared.records.EntryKind.{EntryKind}
-use Rattle.office_base.specs.declared.records.EntryKind.TheVariants.{Raise, Cut, Payment}
-use Rattle.office_base.specs.declared.records.EntryRow.{EntryRow}
+use Rattle.office_base.proofs.Names.{◌≡◌, ℕ, ◌+◌, Bool, true, false, cond, ◌&&◌, List, [], ◌∷◌, filter, refl, sym, ap, ◌∙◌, arith, is_raise, is_payment, is_less, bare_sums, sums_with_entry, sums_with_entries, sum_over, same_number, entry_sum, sums_of, ContractSums, ContractRow, EntryKind, Raise, Cut, Payment, EntryRow}
 
 -- the sum of the entries of certain kinds
 abbrev amounts : (EntryKind → Bool) → List EntryRow → ℕ

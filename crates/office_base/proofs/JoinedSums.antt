@@ -1,21 +1,5 @@
 -- The sums of a line's contracts, collected lot by lot, are those of its joined rows.
-use Rattle.std.specs.Prelude.{◌≡◌, ℕ, ◌+◌, ◌-◌, ◌≤◌, Bool, true, false, cond, ◌&&◌, List, [], ◌∷◌, map, filter, Option, Some, None}
-use Rattle.std.proofs.Common.{refl, sym, ap, ◌∙◌, arith}
-use Rattle.std.specs.List.{AllByRecursion}
-use Rattle.std.specs.Cmp.Lexicographic.{texts_ties}
-use Rattle.std.specs.Ordering.{is_eq, eq_by_cmp, ordering_then}
-use Rattle.std.specs.declared.cmp.Ordering.{Ordering}
-use Rattle.std.specs.declared.cmp.Ordering.TheVariants.{Less, Equal, Greater}
-use Rattle.office_values.specs.Ids.{id_cmp, same_id}
-use Rattle.office_base.specs.Rows.{IsInOrder, holds_of}
-use Rattle.office_base.specs.Sums.{sum_over}
-use Rattle.office_base.specs.Tables.{Tables, IsSorted, lot_cmp, lot_key, find_lot, of_line, lots_of_line, contracts_of_lot}
-use Rattle.office_base.specs.Joined.{plus, minus, outstanding, paid_under, contracts_of_line, is_on_line, sums_of, sums_under, sums_of_line, reservations, LineFits}
-use Rattle.office_base.specs.LineSums.{outstanding_in, paid_in, pots_with, SumsFit, JoinedSums}
-use Rattle.office_base.specs.declared.records.LineRow.{LineRow}
-use Rattle.office_base.specs.declared.records.LotRow.{LotRow}
-use Rattle.office_base.specs.declared.records.ContractRow.{ContractRow}
-use Rattle.office_base.specs.declared.ledger.ContractSums.{ContractSums}
+use Rattle.office_base.proofs.Names.{◌≡◌, ℕ, ◌-◌, ◌≤◌, Bool, true, false, cond, ◌&&◌, List, [], ◌∷◌, map, filter, Option, Some, None, refl, sym, ap, ◌∙◌, arith, AllByRecursion, texts_ties, is_eq, eq_by_cmp, ordering_then, Ordering, Less, Equal, Greater, id_cmp, same_id, IsInOrder, holds_of, sum_over, Tables, IsSorted, lot_cmp, lot_key, find_lot, of_line, lots_of_line, contracts_of_lot, plus, minus, outstanding, paid_under, contracts_of_line, is_on_line, sums_of, sums_under, sums_of_line, reservations, LineFits, outstanding_in, paid_in, pots_with, SumsFit, JoinedSums, LineRow, LotRow, ContractRow, ContractSums}
 use Rattle.office_base.proofs.Orders.{lots_total}
 use Rattle.office_base.proofs.SumsOver.{weight, sum_over-zero, sum_over-ext, sum_over-plus, sum_over-map, sum_over-append_map, sum_over-filter, sum_over-one}
 

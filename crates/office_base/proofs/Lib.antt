@@ -1,3 +1,4 @@
+pub mod Names
 pub mod Orders
 pub mod RowLaws
 pub mod SortedTables

@@ -1,10 +1,5 @@
 -- Changes keep the rows of each table in the order of their keys.
-use Rattle.std.specs.Prelude.{List, [], ◌∷◌}
-use Rattle.std.specs.Cmp.Lexicographic.{nat_list_cmp_total}
-use Rattle.std.proofs.lemmas.Cmp.{nat_cmp_total}
-use Rattle.office_base.specs.Tables.{Tables, IsSorted, after_put, after_puts}
-use Rattle.office_base.specs.Tables.{line_key, batch_key, tenderer_key, notice_key, lot_key, envelope_key, seal_key, security_key, award_key, contract_key, entry_key, release_key, compiled_key, late_key, performance_key}
-use Rattle.office_base.specs.declared.puts.Put.{Put}
+use Rattle.office_base.proofs.Names.{List, [], ◌∷◌, nat_list_cmp_total, nat_cmp_total, Tables, IsSorted, after_put, after_puts, line_key, batch_key, tenderer_key, notice_key, lot_key, envelope_key, seal_key, security_key, award_key, contract_key, entry_key, release_key, compiled_key, late_key, performance_key, Put}
 use Rattle.office_base.specs.declared.puts.Put.TheVariants as puts
 use Rattle.office_base.proofs.Orders.{lots_total, entries_total, releases_total}
 use Rattle.office_base.proofs.RowLaws.{in_order-put, in_order-drop}

@@ -1,10 +1,5 @@
 -- The test that no contract lost more than it gained agrees with that property.
-use Rattle.std.specs.Prelude.{◌≡◌, ◌≤◌, true, List, [], ◌∷◌}
-use Rattle.std.specs.List.{AllByRecursion, list_all}
-use Rattle.std.proofs.Common.{refl}
-use Rattle.std.proofs.lemmas.Bool.{and_parts, and_from, leb-true, le-leb}
-use Rattle.office_base.specs.LineSums.{is_within}
-use Rattle.office_base.specs.declared.ledger.ContractSums.{ContractSums}
+use Rattle.office_base.proofs.Names.{◌≡◌, ◌≤◌, true, List, [], ◌∷◌, AllByRecursion, list_all, refl, and_parts, and_from, leb-true, le-leb, is_within, ContractSums}
 
 pub all_within : (contracts : List ContractSums) → list_all is_within contracts ≡ true → AllByRecursion (λ (sums : ContractSums). sums.lost ≤ sums.gained) contracts
 all_within [] e = tt

@@ -1,19 +1,6 @@
 -- The reasons why a list of changes wasn't made.
-use Rattle.std.proofs.Common.{◌≡◌, inl, inr, ◌≤◌, ℕ, true, false, List, [], ◌∷◌, ◌++◌, Option, Result, Ok, Err, refl, sym, ap, subst, ◌∙◌, IsTrue, true≢false, arith}
-use Rattle.std.specs.Prelude.{IsErrAnd, IfErr}
-use Rattle.std.proofs.lemmas.Bool.{cases_Bool}
-use Rattle.std.proofs.lemmas.List.{append_assoc}
-use Rattle.sqlite_trees.specs.declared.error.StoreError.{StoreError}
+use Rattle.office_changes.proofs.Names.{◌≡◌, inl, inr, ◌≤◌, ℕ, true, false, List, [], ◌∷◌, ◌++◌, Option, Result, Ok, Err, refl, sym, ap, subst, ◌∙◌, IsTrue, true≢false, arith, IsErrAnd, IfErr, cases_Bool, append_assoc, StoreError, Database, FailsToCommit, State, HasCause, store_error, Error, Tables, after_put, after_puts, Put, IsExcused, OneIsDeclined, StoreFails, ChangeFails, Holds, MakeAll, Puts, ShowsTables}
 use Rattle.sqlite_trees.specs.declared.error.StoreError.TheVariants as stores
-use Rattle.sqlite.specs.Effect.{Database}
-use Rattle.sqlite.specs.Steps.{FailsToCommit}
-use Rattle.sqlite.specs.State.{State, HasCause, store_error}
-use Rattle.sqlite.specs.declared.error.Error.{Error}
-use Rattle.office_base.specs.Tables.{Tables, after_put, after_puts}
-use Rattle.office_base.specs.declared.puts.Put.{Put}
-use Rattle.office_tables.specs.Failing.{IsExcused, OneIsDeclined, StoreFails, ChangeFails}
-use Rattle.office_tables.specs.Standing.{Holds}
-use Rattle.office_tables.specs.Steps.{MakeAll, Puts, ShowsTables}
 use Rattle.office_changes.proofs.Steps.{made_then}
 
 pub excused_with : (P Q : Type 0) (e : Error) → IsExcused P e → (P → Q) → IsExcused Q e

@@ -1,34 +1,7 @@
 -- The notices that were in `notices` are put one after another. Then the office has the notices that it had before, and tables apart keep their rows.
-use Rattle.std.proofs.Common.{◌≡◌, ℕ, Option, Bool, true, false, List, [], ◌∷◌, ◌++◌, map, append-nil, refl, sym, ap, subst, subst₂, ◌∙◌, IsTrue, Ordering, Less, Greater}
-use Rattle.std.proofs.lemmas.List.{append_assoc}
-use Rattle.std.specs.Cmp.{IsTotalOrder}
-use Rattle.std.specs.Cmp.Lexicographic.{nat_list_cmp_total}
-use Rattle.std.specs.Ordering.{ordering_reverse}
-use Rattle.sqlite_schema.specs.declared.schema.Schema.{Schema}
-use Rattle.sqlite_schema.specs.declared.schema.Table.{Table}
-use Rattle.sqlite_rules.specs.Lists.{Has}
-use Rattle.sqlite_trees.specs.Tree.{Trees}
-use Rattle.sqlite.specs.Effect.{Database}
-use Rattle.sqlite.specs.State.{State, Shows}
-use Rattle.office_values.specs.Ids.{id_cmp}
-use Rattle.office_base.specs.Rows.{by_order, row_put, StartsAbove, IsInOrder}
-use Rattle.office_base.specs.Tables.{Tables, notice_key, after_puts}
-use Rattle.office_base.specs.declared.puts.Put.{Put}
+use Rattle.office_changes.proofs.Names.{◌≡◌, ℕ, Option, Bool, true, false, List, [], ◌∷◌, ◌++◌, map, append-nil, refl, sym, ap, subst, subst₂, ◌∙◌, IsTrue, Ordering, Less, Greater, append_assoc, IsTotalOrder, nat_list_cmp_total, ordering_reverse, Schema, Table, Has, Trees, Database, State, Shows, id_cmp, by_order, row_put, StartsAbove, IsInOrder, Tables, notice_key, after_puts, Put, ClockRow, NoticeRow, FormerNotice, AddsNoReference, LeadsInside, AreApart, Begins, IsMigrated, besides_former, former_part, had_former, other_part, IsIn, Holds, MakeAll, Puts, Notices, SparesMarked, former_sorted, notices_change, notice_apart, HoldsThese, Becomes, Migrates, LeavesCurrent}
 use Rattle.office_base.specs.declared.puts.Put.TheVariants as puts
-use Rattle.office_base.specs.declared.records.ClockRow.{ClockRow}
-use Rattle.office_base.specs.declared.records.NoticeRow.{NoticeRow}
-use Rattle.office_tables.specs.declared.tables.notices.FormerNotice.{FormerNotice}
-use Rattle.office_tables.specs.Apart.{AddsNoReference, LeadsInside}
-use Rattle.office_tables.specs.Earlier.{AreApart, Begins, IsMigrated, besides_former, former_part, had_former, other_part}
-use Rattle.office_tables.specs.Known.{IsIn}
 use Rattle.office_tables.specs.Tables.Notices.{notices as version_two}
-use Rattle.office_tables.specs.Standing.{Holds}
-use Rattle.office_tables.specs.Steps.{MakeAll, Puts}
-use Rattle.office_tables.specs.Schema.OfficeTable.{Notices}
-use Rattle.office_tables.proofs.Childless.{SparesMarked}
-use Rattle.office_tables.proofs.EarlierEditions.{former_sorted, notices_change}
-use Rattle.office_tables.proofs.PutsApart.{notice_apart}
-use Rattle.office_changes.specs.Migration.{HoldsThese, Becomes, Migrates, LeavesCurrent}
 use Rattle.office_changes.proofs.Steps.{goes_then}
 
 -- ---- a row whose key is above all others is added at the end

@@ -1,13 +1,5 @@
 -- Changes that are made one after another.
-use Rattle.std.proofs.Common.{◌≡◌, Err, Ok, true, false, ℕ, Option, Result, List, [], ◌∷◌, ◌++◌, refl, sym, subst, ◌∙◌, IsTrue}
-use Rattle.std.specs.Prelude.{OnErr, OnOk}
-use Rattle.sqlite_trees.specs.Tree.{Trees}
-use Rattle.sqlite.specs.Effect.{Database}
-use Rattle.sqlite.specs.State.{State, IsRolledBack, Shows}
-use Rattle.office_base.specs.Tables.{Tables, after_put, after_puts}
-use Rattle.office_base.specs.declared.puts.Put.{Put}
-use Rattle.office_tables.specs.Standing.{Holds}
-use Rattle.office_tables.specs.Steps.{Goes, MakeAll, Puts, Refused, Applied, LeavesPuts}
+use Rattle.office_changes.proofs.Names.{◌≡◌, Err, Ok, true, false, ℕ, Option, Result, List, [], ◌∷◌, ◌++◌, refl, sym, subst, ◌∙◌, IsTrue, OnErr, OnOk, Trees, Database, State, IsRolledBack, Shows, Tables, after_put, after_puts, Put, Holds, Goes, MakeAll, Puts, Refused, Applied, LeavesPuts}
 
 pub after_puts-push : (t : Tables) (done : List Put) (p : Put) → after_puts (done ++ p ∷ []) t ≡ after_put p (after_puts done t)
 after_puts-push t [] p = refl

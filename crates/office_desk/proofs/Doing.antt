@@ -1,5 +1,5 @@
 -- A command that was asked for is done as a whole, or nothing is done.
-use Rattle.office_desk.proofs.Names.{◌≡◌, ℕ, ◌⊎◌, true, List, Result, Ok, Err, IsErr, IfErr, ap, ◌∙◌, subst, inl, inr, Caller, Command, Refusal, Unavailable, Publisher, Tables, after_puts, Meaning, Alters, Keeps, Put, KeepsItsReleases, next_with_merges, given, Plan, IsPlan, MovesAddUp, Does, IsOfficeAfter}
+use Rattle.office_desk.proofs.Names.{◌≡◌, ℕ, ◌⊎◌, List, Result, Ok, Err, IsErr, IfErr, ap, ◌∙◌, subst, inl, inr, Caller, Command, Refusal, Unavailable, Publisher, Tables, after_puts, Meaning, Alters, Keeps, Put, KeepsItsReleases, next_with_merges, given, Plan, IsPlan, MovesAddUp, Does, IsOfficeAfter}
 
 module _ {S : Type 0} (M : Meaning S) (publisher : Publisher) (moment : ℕ) (caller : Caller) (command : Command) where
   -- The command was refused.

@@ -37,7 +37,7 @@ pub use Rattle.office_commands.specs.declared.queries.Query.{Query}
 pub use Rattle.office_desk.specs.Balances.{LedgerAddsUp, PotsAddUp, RowAddsUp, pots_add_up, row_adds_up}
 pub use Rattle.office_desk.specs.Desks.{DeskOf}
 pub use Rattle.office_desk.specs.Extent.{IsExtentOf, IsWritten}
-pub use Rattle.office_desk.specs.MovedLines.{MovesAddUp, NoMoveIsLeftOut, held_line_adds_up, line_adds_up, may_move}
+pub use Rattle.office_desk.specs.MovedLines.{MovesAddUp, NoMoveIsLeftOut, line_adds_up, may_move}
 pub use Rattle.office_desk.specs.Steps.{OfficeIsKept, Joins, office_after_answer, accepted_after, read_text, Does, IsOfficeAfter, HasShown, IsSeen, TellsQuery}
 pub use Rattle.office_desk.specs.declared.queries.packages.texts.Extent.{Extent}
 pub use Rattle.office_machine.specs.Accounts.{AccountsAreKept}
@@ -54,7 +54,7 @@ pub use Rattle.office_plans.specs.Asking.{given}
 pub use Rattle.office_plans.specs.Json.{Member, object_text, with_objects}
 pub use Rattle.office_plans.specs.LookedUp.{AreFrom, IsAsIn}
 pub use Rattle.office_plans.specs.Plans.{Plan}
-pub use Rattle.office_plans.specs.Published.{IsPlan, TellsRefusal, gathers_lines}
+pub use Rattle.office_plans.specs.Published.{IsPlan, TellsRefusal}
 pub use Rattle.office_plans.specs.Replies.{minuted_tender, evaluated_lines, finding_of, registered_line, registry_text}
 pub use Rattle.office_plans.specs.RowMembers.{listed_security_entries, listed_tenderer_entries, page_entries, own_tender_entries}
 pub use Rattle.office_plans.specs.Tenderers.{with_tenderer}

@@ -1,5 +1,5 @@
 -- Each line that a move names is one that is tested.
-use Rattle.office_desk.proofs.Names.{◌≡◌, ℕ, ◌-◌, Bool, true, false, cond, ◌&&◌, List, [], ◌∷◌, map, filter, Option, Some, None, nat_le, AllByRecursion, list_all, refl, ap, ◌∙◌, BudgetRow, ChangeKind, NewLot, line_of_lot, lot_of_award, lot_of_contract, Tables, award_at, contract_at, envelopes_of_lot, line_at, lot_at, lots_of_notice, notice_at, EnvelopeRow, LotRow, is_open_lot, price_of, winner, Free, Move, Reserved, line_in, move_back, move_of_award, move_of_change, move_of_lot, move_of_row, reserved_for, NoMoveIsLeftOut, held_line_adds_up, line_adds_up, may_move}
+use Rattle.office_desk.proofs.Names.{◌≡◌, ℕ, ◌-◌, Bool, true, false, cond, ◌&&◌, List, [], ◌∷◌, map, filter, Option, Some, None, nat_le, AllByRecursion, list_all, refl, ap, ◌∙◌, BudgetRow, ChangeKind, NewLot, line_of_lot, lot_of_award, lot_of_contract, Tables, award_at, contract_at, envelopes_of_lot, line_at, lot_at, lots_of_notice, notice_at, EnvelopeRow, LotRow, is_open_lot, price_of, winner, Free, Move, Reserved, line_in, move_back, move_of_award, move_of_change, move_of_lot, move_of_row, reserved_for, NoMoveIsLeftOut, line_adds_up, may_move}
 use Rattle.office_commands.specs.declared.commands.Command.TheVariants as commands
 use Rattle.office_commands.specs.declared.contract.ChangeKind.TheVariants as change_kinds
 
@@ -10,18 +10,18 @@ both false b e = cc
 module _ (s : Tables) where
   -- the line exists and adds up
   abbrev Adds : List ℕ → Type 0
-  Adds line = held_line_adds_up s (line_at line s) ≡ true
+  Adds line = line_adds_up false s (line_at line s) ≡ true
 
-  rows_tested : (batch : List ℕ) (all rows : List BudgetRow) → list_all (λ (row : BudgetRow). line_adds_up s (line_at row.line s)) rows ≡ true
+  rows_tested : (batch : List ℕ) (all rows : List BudgetRow) → list_all (λ (row : BudgetRow). line_adds_up true s (line_at row.line s)) rows ≡ true
       → AllByRecursion (λ (m : Move). may_move (commands.Import batch all) s m ≡ true) (map move_of_row rows)
   rows_tested batch all [] e = tt
   rows_tested batch all (row ∷ rows) e = let each = both _ _ e in (each.0, rows_tested batch all rows each.1)
 
-  new_lots_tested : (lots : List NewLot) → list_all (λ (lot : NewLot). held_line_adds_up s (line_at lot.line s)) lots ≡ true → AllByRecursion (λ (m : Move). Adds m.line) (map move_of_lot lots)
+  new_lots_tested : (lots : List NewLot) → list_all (λ (lot : NewLot). line_adds_up false s (line_at lot.line s)) lots ≡ true → AllByRecursion (λ (m : Move). Adds m.line) (map move_of_lot lots)
   new_lots_tested [] e = tt
   new_lots_tested (lot ∷ lots) e = let each = both _ _ e in (each.0, new_lots_tested lots each.1)
 
-  lots_tested : (held : List ℕ × List ℕ → ℕ) (lots : List LotRow) → list_all (λ (lot : LotRow). held_line_adds_up s (line_at lot.line s)) lots ≡ true
+  lots_tested : (held : List ℕ × List ℕ → ℕ) (lots : List LotRow) → list_all (λ (lot : LotRow). line_adds_up false s (line_at lot.line s)) lots ≡ true
       → AllByRecursion (λ (m : Move). Adds m.line) (map (move_back held) (filter is_open_lot lots))
   lots_tested held [] e = tt
   lots_tested held (lot ∷ lots) e =
@@ -32,12 +32,12 @@ module _ (s : Tables) where
       ]
 
   -- the line of a lot that exists
-  lot_tested : (lot : Option LotRow) → held_line_adds_up s (line_of_lot lot s) ≡ true → Adds (line_in lot)
+  lot_tested : (lot : Option LotRow) → line_adds_up false s (line_of_lot lot s) ≡ true → Adds (line_in lot)
   lot_tested None e = cc
   lot_tested (Some l) e = e
 
   on_line : (k line : List ℕ) → k ≡ line → Adds line → Adds k
-  on_line k line is e = ap (λ q. held_line_adds_up s (line_at q s)) is ∙ e
+  on_line k line is e = ap (λ q. line_adds_up false s (line_at q s)) is ∙ e
 
 abbrev IsOn : List ℕ → Move → Type 0
 IsOn line m = m.line ≡ line

@@ -18,22 +18,18 @@ use Rattle.office_machine.specs.Machine.{Given}
 use Rattle.office_machine.specs.Moves.{Move, moves_for}
 use Rattle.office_desk.specs.Balances.{pots_add_up}
 
--- The balances of the line with this row add up, or the line doesn't exist.
-abbrev pub line_adds_up : Tables → Option LineRow → Bool
-line_adds_up s line = option_map_or (λ (row : LineRow). pots_add_up (pots_of row s)) line true
-
--- The line with this row exists, and its balances add up.
-abbrev pub held_line_adds_up : Tables → Option LineRow → Bool
-held_line_adds_up s line = option_map_or (λ (row : LineRow). pots_add_up (pots_of row s)) line false
+-- The balances of the line with this row add up; `missing` if there is no such line.
+abbrev pub line_adds_up : Bool → Tables → Option LineRow → Bool
+line_adds_up missing s line = option_map_or (λ (row : LineRow). pots_add_up (pots_of row s)) line missing
 
 -- Money may be moved of this line: it adds up. Only an import may name a line that doesn't exist, because it makes the line.
 abbrev pub may_move : Command → Tables → Move → Bool
-may_move (commands.Import batch rows) s m = line_adds_up s (line_at m.line s)
-may_move command s m = held_line_adds_up s (line_at m.line s)
+may_move (commands.Import batch rows) s m = line_adds_up true s (line_at m.line s)
+may_move command s m = line_adds_up false s (line_at m.line s)
 
 -- A failed award moves no money, but opens its lot again: the lot's line exists, and adds up.
 abbrev pub reopened_adds_up : Command → Tables → Bool
-reopened_adds_up (commands.Fail award) s = held_line_adds_up s (line_of_lot (lot_of_award (award_at award s) s) s)
+reopened_adds_up (commands.Fail award) s = line_adds_up false s (line_of_lot (lot_of_award (award_at award s) s) s)
 reopened_adds_up command s = true
 
 -- Money may be moved of each line of which the specification moves any, whatever was accepted before the command.
@@ -42,15 +38,15 @@ MovesAddUp command s = (reopened_adds_up command s ≡ true) × ((earlier : List
 
 -- The test that the desk makes: the lines of a budget file, of the lots that are published, or of the stored lots.
 abbrev pub moved_lines_add_up : Command → Tables → Bool
-moved_lines_add_up (commands.Import batch rows) s = list_all (λ (row : BudgetRow). line_adds_up s (line_at row.line s)) rows
-moved_lines_add_up (commands.Publish notice content) s = list_all (λ (lot : NewLot). held_line_adds_up s (line_at lot.line s)) content.lots
-moved_lines_add_up (commands.Cancel notice rationale) s = list_all (λ (lot : LotRow). held_line_adds_up s (line_at lot.line s)) (lots_of_notice notice s)
-moved_lines_add_up (commands.Award notice lot) s = held_line_adds_up s (line_of_lot (lot_at (notice, lot) s) s)
-moved_lines_add_up (commands.Fail award) s = held_line_adds_up s (line_of_lot (lot_of_award (award_at award s) s) s)
-moved_lines_add_up (commands.Sign award security) s = held_line_adds_up s (line_of_lot (lot_of_award (award_at award s) s) s)
-moved_lines_add_up (commands.AmendContract contract entry kind amount rationale) s = held_line_adds_up s (line_of_lot (lot_of_contract (contract_at contract s) s) s)
-moved_lines_add_up (commands.Pay contract entry amount) s = held_line_adds_up s (line_of_lot (lot_of_contract (contract_at contract s) s) s)
-moved_lines_add_up (commands.End contract how) s = held_line_adds_up s (line_of_lot (lot_of_contract (contract_at contract s) s) s)
+moved_lines_add_up (commands.Import batch rows) s = list_all (λ (row : BudgetRow). line_adds_up true s (line_at row.line s)) rows
+moved_lines_add_up (commands.Publish notice content) s = list_all (λ (lot : NewLot). line_adds_up false s (line_at lot.line s)) content.lots
+moved_lines_add_up (commands.Cancel notice rationale) s = list_all (λ (lot : LotRow). line_adds_up false s (line_at lot.line s)) (lots_of_notice notice s)
+moved_lines_add_up (commands.Award notice lot) s = line_adds_up false s (line_of_lot (lot_at (notice, lot) s) s)
+moved_lines_add_up (commands.Fail award) s = line_adds_up false s (line_of_lot (lot_of_award (award_at award s) s) s)
+moved_lines_add_up (commands.Sign award security) s = line_adds_up false s (line_of_lot (lot_of_award (award_at award s) s) s)
+moved_lines_add_up (commands.AmendContract contract entry kind amount rationale) s = line_adds_up false s (line_of_lot (lot_of_contract (contract_at contract s) s) s)
+moved_lines_add_up (commands.Pay contract entry amount) s = line_adds_up false s (line_of_lot (lot_of_contract (contract_at contract s) s) s)
+moved_lines_add_up (commands.End contract how) s = line_adds_up false s (line_of_lot (lot_of_contract (contract_at contract s) s) s)
 moved_lines_add_up command s = true
 
 -- The law: it tests each line of which the specification moves money.

@@ -1,5 +1,5 @@
 -- The answers of a desk: the specification's step, or `Unavailable` if memory is too small or the store fails.
-use Rattle.std.specs.Prelude.{◌≡◌, ℕ, true, false, ◌⊎◌, List, Option, ◌∷◌, ◌++◌, map, Some, None, Result, Ok, Err, IfErr, OnOk, OnErr, Vec}
+use Rattle.std.specs.Prelude.{◌≡◌, ℕ, false, ◌⊎◌, List, ◌∷◌, ◌++◌, map, Some, None, Result, Ok, Err, IfErr, OnOk, OnErr, Vec}
 use Rattle.std.specs.declared.alloc.Global.{Global}
 use Rattle.office_commands.specs.declared.command.Caller.{Caller}
 use Rattle.office_commands.specs.declared.queries.Query.{Query}
@@ -10,11 +10,10 @@ use Rattle.office_values.specs.declared.refusal.Refusal.TheVariants.{Unavailable
 use Rattle.office_values.specs.declared.settings.Publisher.{Publisher}
 use Rattle.office_base.specs.Faults.{HasRisen}
 use Rattle.office_base.specs.Joined.{is_overdrawn}
+use Rattle.office_base.specs.Rows.{holds_of}
 use Rattle.office_base.specs.Tables.{Tables, after_puts, contract_at, entries_of_contract}
 use Rattle.office_base.specs.declared.puts.Put.TheVariants as puts
 use Rattle.office_base.specs.declared.records.CompiledRow.{CompiledRow}
-use Rattle.office_base.specs.declared.records.ContractRow.{ContractRow}
-use Rattle.office_base.specs.declared.records.EntryRow.{EntryRow}
 use Rattle.office_base.specs.Shelves.{Meaning}
 use Rattle.office_machine.specs.Lacking.{is_lacking}
 use Rattle.office_machine.specs.Machine.{Given, puts_of, refusal_of, Reaches}
@@ -76,20 +75,15 @@ abbrev pub IsSeen : Publisher → Caller → Query → Tables → Result (List �
 IsSeen publisher caller query s result =
     Needs publisher query s → (result ≡ text_of (told (packages publisher) s caller query)) ⊎ (result ≡ Err Unavailable)
 
--- By these entries, no more money went out of the contract than came in.
-abbrev pub IsNotOverdrawn : Option ContractRow → List EntryRow → Type 0
-IsNotOverdrawn None entries = Unit {0}
-IsNotOverdrawn (Some c) entries = is_overdrawn entries c ≡ false
-
 -- The facts that an answer shows hold, even if no commands lead to this office. On a line, alone or in the ledger, the four balances add up to the
 -- appropriation. For the releases, each release that the notice's row counts exists, and is a release of this notice as the office writes it. For the record,
--- its merge is too. A contract isn't overdrawn.
+-- its merge is too. By the entries of a contract, no more money went out of it than came in.
 abbrev pub HasShown : Publisher → Query → Tables → Type 0
 HasShown publisher (queries.Line line) s = LineAddsUp line s
 HasShown publisher queries.Ledger s = LedgerAddsUp s
 HasShown publisher (queries.Releases notice) s = HasReleases publisher notice s
 HasShown publisher (queries.Record notice) s = HasReleases publisher notice s × HasMerge (ocid_text publisher.prefix notice) notice s
-HasShown publisher (queries.Contract contract) s = IsNotOverdrawn (contract_at contract s) (entries_of_contract contract s)
+HasShown publisher (queries.Contract contract) s = holds_of (is_overdrawn (entries_of_contract contract s)) (contract_at contract s) ≡ false
 HasShown publisher query s = Unit {0}
 
 -- The answer to a query that isn't for a package; packages are empty here.

@@ -14,7 +14,7 @@ ghost use Rattle.office_plans.specs.Asking.{given};
 ghost use Rattle.office_base.specs.Shutting.{TellsShut};
 ghost use Rattle.office_desk.specs.Callers.{caller_of, names_no_tenderer};
 ghost use Rattle.office_desk.specs.MovedLines.{MovesAddUp};
-ghost use Rattle.office_plans.specs.Published.{IsPlan, IsPlanned, TellsRefusal, gathers_lines};
+ghost use Rattle.office_plans.specs.Published.{IsPlan, IsPlanned, TellsRefusal};
 ghost use Rattle.office_desk.specs.Steps.{Does, HasShown, IsReplyOrRefusal, IsSeen, Joins, TellsQuery, read_text};
 
 use crate::callers::{clerk_with_key, is_clerk_name, tenderer_named};
@@ -123,8 +123,8 @@ impl<H: Shelf + Drop> Desk<H> {
     }
 
     /// The plan of a command, which changes nothing. A command that moves money has a plan only if the lines add up whose money it moves; if one doesn't, the
-    /// answer is `Unavailable`. A refused command gets its refusal, or the store has counted another fault. This isn't promised of an import and a publication,
-    /// because they gather budget lines first.
+    /// answer is `Unavailable`. A refused command gets its refusal, or the store has counted another fault. Of an import and a publication only `Exists` is promised
+    /// so, because they gather budget lines before other refusals.
     pub fn plan(
         &mut self,
         moment: Moment,
@@ -136,7 +136,7 @@ impl<H: Shelf + Drop> Desk<H> {
         ensures moved { H.meaning.honest self.new.shelf → (s : Tables) → H.meaning.holds self.old.shelf s → IfOk result (λ _. MovesAddUp command.entry s) }
         ensures settings { self.new.settings ≡ self.old.settings }
         ensures forbidden { may caller.now (commands.kind_of command.entry) ≡ false → result ≡ Err Refusal.Forbidden }
-        ensures tells { gathers_lines command.entry ≡ false → TellsRefusal H.meaning self.old.shelf self.new.shelf (λ s. given s moment caller.now command.entry) result }
+        ensures tells { TellsRefusal H.meaning self.old.shelf self.new.shelf (λ s. given s moment caller.now command.entry) result }
     {
         looks_follow::<H>();
         moved_lines();

@@ -1,5 +1,5 @@
 //! A test of the budget lines whose money a command moves.
-ghost use Rattle.std.specs.Prelude.{◌≡◌, true};
+ghost use Rattle.std.specs.Prelude.{◌≡◌, false, true};
 ghost use Rattle.std.specs.List.{list_all};
 ghost use Rattle.std.specs.Option.{option_map_or};
 ghost use Rattle.office_commands.specs.declared.budget.BudgetRow.{BudgetRow as BudgetRowOf};
@@ -11,7 +11,7 @@ ghost use Rattle.office_base.specs.Tables.{award_at, contract_at, line_at, lot_a
 ghost use Rattle.office_base.specs.declared.records.LineRow.{LineRow as LineRowOf};
 ghost use Rattle.office_base.specs.declared.records.LotRow.{LotRow as LotRowOf};
 ghost use Rattle.office_desk.specs.Balances.{pots_add_up};
-ghost use Rattle.office_desk.specs.MovedLines.{IsTested, held_line_adds_up, line_adds_up, moved_lines_add_up};
+ghost use Rattle.office_desk.specs.MovedLines.{IsTested, line_adds_up, moved_lines_add_up};
 
 use crate::balances::pots_add_up;
 use office_base::laws::looks_follow;
@@ -45,7 +45,7 @@ fn adds_up<H: Lookups>(shelf: &mut H, line: &Id, missing: bool) -> Result<bool, 
 }
 
 fn lot_adds_up<H: Lookups>(shelf: &mut H, notice: &Id, lot: &Id) -> Result<bool, ShelfFault>
-    ensures { Looks H.meaning shelf.old shelf.new (λ s. IsTested (H.meaning.fault_count shelf.old) (H.meaning.fault_count shelf.new) s (held_line_adds_up s (line_of_lot (lot_at (notice.now, lot.now) s) s)) result) }
+    ensures { Looks H.meaning shelf.old shelf.new (λ s. IsTested (H.meaning.fault_count shelf.old) (H.meaning.fault_count shelf.new) s (line_adds_up false s (line_of_lot (lot_at (notice.now, lot.now) s) s)) result) }
 {
     looks_follow::<H>();
     match shelf.get_lot(notice, lot)? {
@@ -55,7 +55,7 @@ fn lot_adds_up<H: Lookups>(shelf: &mut H, notice: &Id, lot: &Id) -> Result<bool,
 }
 
 fn award_adds_up<H: Lookups>(shelf: &mut H, award: AskedNumber) -> Result<bool, ShelfFault>
-    ensures { Looks H.meaning shelf.old shelf.new (λ s. IsTested (H.meaning.fault_count shelf.old) (H.meaning.fault_count shelf.new) s (held_line_adds_up s (line_of_lot (lot_of_award (award_at award s) s) s)) result) }
+    ensures { Looks H.meaning shelf.old shelf.new (λ s. IsTested (H.meaning.fault_count shelf.old) (H.meaning.fault_count shelf.new) s (line_adds_up false s (line_of_lot (lot_of_award (award_at award s) s) s)) result) }
 {
     looks_follow::<H>();
     match shelf.get_award(award)? {
@@ -65,7 +65,7 @@ fn award_adds_up<H: Lookups>(shelf: &mut H, award: AskedNumber) -> Result<bool, 
 }
 
 fn contract_adds_up<H: Lookups>(shelf: &mut H, contract: AskedNumber) -> Result<bool, ShelfFault>
-    ensures { Looks H.meaning shelf.old shelf.new (λ s. IsTested (H.meaning.fault_count shelf.old) (H.meaning.fault_count shelf.new) s (held_line_adds_up s (line_of_lot (lot_of_contract (contract_at contract s) s) s)) result) }
+    ensures { Looks H.meaning shelf.old shelf.new (λ s. IsTested (H.meaning.fault_count shelf.old) (H.meaning.fault_count shelf.new) s (line_adds_up false s (line_of_lot (lot_of_contract (contract_at contract s) s) s)) result) }
 {
     looks_follow::<H>();
     match shelf.get_contract(contract)? {
@@ -77,7 +77,7 @@ fn contract_adds_up<H: Lookups>(shelf: &mut H, contract: AskedNumber) -> Result<
 // The lines of a budget file.
 fn rows_add_up<H: Lookups>(shelf: &mut H, rows: &[BudgetRow]) -> Result<bool, ShelfFault>
     ensures { Looks H.meaning shelf.old shelf.new (λ s. IsTested (H.meaning.fault_count shelf.old) (H.meaning.fault_count shelf.new) s
-        (list_all (λ (row : BudgetRowOf). line_adds_up s (line_at row.line s)) rows.now) result) }
+        (list_all (λ (row : BudgetRowOf). line_adds_up true s (line_at row.line s)) rows.now) result) }
 {
     looks_follow::<H>();
     for row in rows {
@@ -91,7 +91,7 @@ fn rows_add_up<H: Lookups>(shelf: &mut H, rows: &[BudgetRow]) -> Result<bool, Sh
 // The lines of lots that are to be published.
 fn new_lots_add_up<H: Lookups>(shelf: &mut H, lots: &[NewLot]) -> Result<bool, ShelfFault>
     ensures { Looks H.meaning shelf.old shelf.new (λ s. IsTested (H.meaning.fault_count shelf.old) (H.meaning.fault_count shelf.new) s
-        (list_all (λ (lot : NewLotOf). held_line_adds_up s (line_at lot.line s)) lots.now) result) }
+        (list_all (λ (lot : NewLotOf). line_adds_up false s (line_at lot.line s)) lots.now) result) }
 {
     looks_follow::<H>();
     for lot in lots {
@@ -105,7 +105,7 @@ fn new_lots_add_up<H: Lookups>(shelf: &mut H, lots: &[NewLot]) -> Result<bool, S
 // The lines of these lots.
 fn lots_add_up<H: Lookups>(shelf: &mut H, lots: &[LotRow]) -> Result<bool, ShelfFault>
     ensures { Looks H.meaning shelf.old shelf.new (λ s. IsTested (H.meaning.fault_count shelf.old) (H.meaning.fault_count shelf.new) s
-        (list_all (λ (lot : LotRowOf). held_line_adds_up s (line_at lot.line s)) lots.now) result) }
+        (list_all (λ (lot : LotRowOf). line_adds_up false s (line_at lot.line s)) lots.now) result) }
 {
     looks_follow::<H>();
     for lot in lots {

@@ -34,7 +34,7 @@ pub use Rattle.office_desk.specs.Desks.{DeskOf}
 pub use Rattle.office_desk.specs.Steps.{no_packages, IsSeen, Needs, OfficeIsKept}
 pub use Rattle.office_http.specs.Answering.{KeepsMeant, NeedsMeant, WritesMeant, answer_bytes, is_accepted, is_done, reply_to_meant, seen_as, tables_after, tables_left, told_as, unavailable_text, Held, IsAnswered, IsWholeAfter, LeftAfter, StandsAs, StopsAfter, meant_in, office_answers, GivesWhole, IsRefusedText, ShowsMeant, ChangesOnlyAccepting, IsTold, held_by}
 pub use Rattle.office_http.specs.AtSight.{TellsAtSight, refused_at_sight, is_known_at_sight, refused_by_route, refused_to}
-pub use Rattle.office_http.specs.Certain.{is_found, refusal_of_answer, refusal_meant, takes_none}
+pub use Rattle.office_http.specs.Certain.{is_found, refusal_meant, takes_none}
 pub use Rattle.office_http.specs.Credentials.{credentials_of}
 pub use Rattle.office_http.specs.Inside.Meant.{CanBeMeant, Answered, HoldsStanding, AnswersMeant, IsCertain}
 pub use Rattle.office_http.specs.Joined.{RequestsAreKept, StepsAreKept, joined_meant, accepted_steps, joined_with}
@@ -57,7 +57,7 @@ pub use Rattle.office_machine.specs.Sights.{Packages, is_read_envelope, line_tol
 pub use Rattle.office_machine.specs.Worlds.{Modified, Presented, Same, SameBut, ChosenTender}
 pub use Rattle.office_plans.specs.Asking.{given}
 pub use Rattle.office_plans.specs.Plans.{Plan}
-pub use Rattle.office_plans.specs.Published.{gathers_lines, IsPlan, IsPut, accepted_reply}
+pub use Rattle.office_plans.specs.Published.{takes_memory, IsPlan, IsPut, accepted_reply}
 pub use Rattle.office_plans.specs.Replies.{text_of, reply_text}
 pub use Rattle.office_publications.specs.Keeping.{KeepsItsReleases, KeepsReleases, KeptStepsReach, ReleasesStayKept, next_with_merges}
 pub use Rattle.office_publications.specs.MergesApart.{KeptStepsReadNoMerges, PublishedLooksReadNoMerges}
@@ -97,4 +97,5 @@ pub use Rattle.std.proofs.lemmas.Fmt.{length-decimal-le}
 pub use Rattle.std.proofs.lemmas.Option.{IfSome_then}
 unfoldable pub use Rattle.std.specs.Fmt.{digits}
 pub use Rattle.std.specs.Prelude.{IfOk, option_map, is_none, codes, decimal, ⊤, cond, map, filter, IsSome}
+pub use Rattle.std.specs.Result.{result_err}
 pub use Rattle.tender_core.specs.Rules.Modify.{modify_tests}

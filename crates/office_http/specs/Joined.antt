@@ -13,7 +13,7 @@ use Rattle.office_desk.specs.Steps.{OfficeIsKept}
 use Rattle.office_wire.specs.Request.{RequestView, IsRequest, IsRefused}
 use Rattle.office_wire.specs.Runs.{Step, office_left}
 use Rattle.office_wire.specs.declared.fault.ReadFault.{ReadFault}
-use Rattle.office_http.specs.Meaning.{Meant, Refuses, Gives, Sees, meant}
+use Rattle.office_http.specs.Meaning.{Meant, Gives, meant}
 use Rattle.office_http.specs.Answering.{Held, answer_bytes, fault_text, meant_in, office_answers, tables_left}
 
 -- The accepted commands after the meaning of a request, the last one first. A refusal and a query add nothing.

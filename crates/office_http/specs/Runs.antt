@@ -12,17 +12,13 @@ use Rattle.office_http.specs.Answering.{Held, StandsAs, office_answers}
 use Rattle.office_http.specs.Joined.{accepted_steps}
 use Rattle.office_http.specs.Stops.{StopsBy}
 
--- If accepted commands lead to this office, then they and the commands of these steps are kept.
-abbrev pub KeepsSteps : Held → List Step → Type 0
-KeepsSteps h steps =
-    (xs : List Given) → Reaches (publishing h.settings.publisher) xs h.tables → OfficeIsKept h.settings.publisher (accepted_steps h steps xs) (office_left office_answers h steps).tables
-
--- A desk went through these steps, from this office. It holds the office after them, which is a reached one. A stop leaves only states that the steps allow, and
--- all accepted commands are kept.
+-- A desk went through these steps, from this office. It holds the office after them, which is a reached one. A stop leaves only states that the steps allow. If
+-- accepted commands led to the office, then they and the commands of these steps are kept.
 pub record WentThrough {S : Type 0} (M : Meaning S) (old new : DeskOf S) (h : Held) (steps : List Step) : Type 0 where
   pub stands : StandsAs M new (office_left office_answers h steps)
   pub stops : StopsBy M old.shelf new.shelf h steps
-  pub kept : KeepsSteps h steps
+  pub kept : (xs : List Given) → Reaches (publishing h.settings.publisher) xs h.tables
+      → OfficeIsKept h.settings.publisher (accepted_steps h steps xs) (office_left office_answers h steps).tables
 
 -- A run over a reader: its steps have the requests that were read and the responses that were sent (`Ran`), and the desk went through the same steps.
 abbrev pub HasRun : {S : Type 0} → Meaning S → Result ℕ RunFault → ReaderView → ReaderView → DeskOf S → DeskOf S → Option (List ℕ) → Option (List ℕ) → Type 0

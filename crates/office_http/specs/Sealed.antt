@@ -74,9 +74,6 @@ meant_opens th s moment (Sees caller query) = false
 abbrev pub opens_lot : ChosenTender → Held → Step → Bool
 opens_lot th h x = not x.busy && meant_opens th h.tables x.block.moment (meant_in h x.block)
 
-abbrev pub at_no_step : Held → Step → Bool
-at_no_step h x = false
-
 -- Two runs from one office, whose requests differ only in such bytes, get responses that are alike up to the opening of the lot's notice.
 abbrev pub AnsweredSealsAreKept : Type 0
 AnsweredSealsAreKept = (th : ChosenTender) (xs : List Given) (h : Held) → Reaches (publishing h.settings.publisher) xs h.tables
@@ -86,7 +83,7 @@ AnsweredSealsAreKept = (th : ChosenTender) (xs : List Given) (h : Held) → Reac
 abbrev pub AnsweredRunsAreAlike : Type 0
 AnsweredRunsAreAlike = (th : ChosenTender) (xs : List Given) (h : Held) → Reaches (publishing h.settings.publisher) xs h.tables
     → (steps steps' : List Step) → SameSteps th h h steps steps' → DifferingAreGone (accepted_steps h steps xs) (accepted_steps h steps' xs)
-    → AnsweredAlikeUntil th at_no_step h h steps steps'
+    → AnsweredAlikeUntil th (λ _ _. false) h h steps steps'
 
 -- The meaning of a request depends only on the settings and on the tenderers that the office knows.
 abbrev pub MeaningsReadTenderers : Type 0

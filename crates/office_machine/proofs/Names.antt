@@ -99,7 +99,7 @@ pub use Rattle.office_machine.specs.Lacking.{NothingIsLacking, is_lacking}
 pub use Rattle.office_machine.specs.Late.{LateRulesAreKept, is_forfeiting, late_row, lets_late, was_let_late}
 pub use Rattle.office_machine.specs.Machine.{Given, Means, Reaches, AreOfNotices, CanBeGiven, refusal_of, next, with_merges, puts_of, command_tests, effect, publication, publication_puts, time_of, may_give, tests_for, puts_for, reply_for, done, release_row, IsRegistered, tests}
 pub use Rattle.office_machine.specs.MergesApart.{FatesReadNoMerges, LooksReadNoMerges, NextReadsNoMerges, PublishesNoMerges, PutsReadNoMerges, RefusalsReadNoMerges, RepliesReadNoMerges, ShowsNoMerges, bare, beside}
-pub use Rattle.office_machine.specs.Moves.{moves, brought, taken, owed, line_in, raised_by, cut_by, move_of_change, Move, Outside, Free, Reserved, Contracted, Paid, reserved_for, Pot, inflow, outflow, same_pot, move_back, lot_in_award, same_lot, price_after, move_of_award, move_of_lot, estimate_in, move_of_row, moves_by, brought_by, taken_by}
+pub use Rattle.office_machine.specs.Moves.{moves, brought, taken, owed, line_in, raised_by, cut_by, move_of_change, Move, Outside, Free, Reserved, Contracted, Paid, reserved_for, Pot, inflow, outflow, same_pot, move_back, lot_in_award, same_lot, move_of_award, move_of_lot, estimate_in, move_of_row, moves_by, brought_by, taken_by}
 pub use Rattle.office_machine.specs.NoParents.{NoOwnerIsReplaced, NoParentIsMade, NoKindIsForgotten, LotsAgree, EnvelopesAgree, SecuritiesAgree, AwardsAgree, ContractsAgree, PerformancesAgree, OwnersStay}
 pub use Rattle.office_machine.specs.Order.{IsLeast, LeastIsAnswered, NumbersNeverFall, NeverFall}
 pub use Rattle.office_machine.specs.Orphans.{receipt_is_taken, contract_is_taken, lacks_its_security, reserves_another, award_is_taken, is_torn, names_lost_line, has_rows_of_notice, lacks_seal}
@@ -114,7 +114,7 @@ pub use Rattle.office_machine.specs.Registered.{tenderer_after, tenderer_by, Ten
 pub use Rattle.office_machine.specs.Releases.{is_for, published_by, ReleasesArePublished, AreCounted, ReleasesAreCounted, AreNumbered, ReleasesAreNumbered, MomentsNeverFall, ReleasesAreInTime}
 pub use Rattle.office_machine.specs.Replies.{EvaluatedLot, EvaluatedTender, EvaluationSeen, winning, Reply, OpenedAll, Received, Awarded, Tender, Registry, Minutes, release_of, release_of_contract, left_of, modify_reply, Withdrew, state_after, OwnTendersSeen}
 pub use Rattle.office_machine.specs.Requests.{Demand, Asks, Looks, Request, given_by_request, office_by, accepted_by, demand_office, demand_accepted, office_after, accepted_with, IsDemand, RunsReach, StepsReach, reply_by, AreRequests, all_accepted, reply_to}
-pub use Rattle.office_machine.specs.Rule.{Rule, sealed_tenders, sealed_tender, bytes_in, items_of_row, has_seal_and_lot}
+pub use Rattle.office_machine.specs.Rule.{Rule, sealed_tenders, sealed_tender, has_seal_and_lot}
 pub use Rattle.office_machine.specs.Seals.{SameButSeals, ReleasesHideSeals, PackagesHideSeals, AlikeThroughout, bytes_of, is_gone, DifferingAreGone, WholeRunsAreAlike, ButDigest, without_digest, ToldAlike, bare_tender, SameDemand, SameRequest, opens_it, demand_opens, is_opening, KnowAlike, AlikeUntilOpening, SealsAreKept}
 pub use Rattle.office_machine.specs.Sights.{Packages, contract_told, line_told, minutes_told, own_tenders_told, package_told, performance_told, register_told, securities_told, security_told, shown, tender_told, terms_told, registered, minuted, is_read_envelope, told, own_tender, own_of_lot}
 pub use Rattle.office_machine.specs.Terms.{LotTerms, lot_terms, NoticeTerms, TermsAreKept, lot_named, lot_terms_after, new_lot_terms, notice_terms, notice_terms_after, notice_terms_by, with_deadline}
@@ -163,6 +163,7 @@ pub use Rattle.std.specs.Cmp.{nat_cmp_total, IsTotalOrder, nat_cmp_is, tied_itse
 pub use Rattle.std.specs.Cmp.Lexicographic.{nat_list_cmp_total, texts_ties}
 pub use Rattle.std.specs.FinMap.{nat_cmp-IsAntisymmetric, IsAntisymmetric}
 pub use Rattle.std.specs.List.{AllByRecursion, Contains, list_any, flat_map}
+pub use Rattle.std.specs.Option.{option_map_or}
 pub use Rattle.std.specs.Ordering.{nat_cmp, eq_by_cmp, ordering_then, is_eq, is_lt, ordering_reverse}
 pub use Rattle.std.specs.Prelude.{◌≡◌, ℕ, true, cond, List, Option, Some, None, IsSome, is_some, max, option_and_then, ◌≤◌, codes, option_to_list, nat_le, take, drop, slice_get}
 pub use Rattle.std.specs.declared.cmp.Ordering.{Ordering}

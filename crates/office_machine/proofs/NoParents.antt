@@ -3,7 +3,7 @@ pub mod Gentle
 pub mod Kept
 pub mod Named
 pub mod New
-use Rattle.office_machine.proofs.Names.{◌≡◌, ℕ, List, Option, Some, None, option_and_then, option_map, refl, ReleaseRow, Tables, Given, Means, effect, publication, publication_puts, puts_of, NoOwnerIsReplaced, NoParentIsMade, is_lacking, refusal_of, IsSorted, false}
+use Rattle.office_machine.proofs.Names.{◌≡◌, Option, Some, None, refl, ReleaseRow, Tables, Given, Means, effect, publication, publication_puts, puts_of, NoOwnerIsReplaced, NoParentIsMade, is_lacking, refusal_of, IsSorted, false}
 use Rattle.office_machine.proofs.Commands.{lawful}
 use Rattle.office_machine.proofs.NoParents.Gentle.{AreGentle, gentle-append, orphans_stay, owners_stay, owners_there}
 use Rattle.office_machine.proofs.Passed.{allowed_by}

@@ -1,5 +1,6 @@
 -- The money that accepted commands move between the balances of budget lines.
 use Rattle.std.specs.Prelude.{◌≡◌, ℕ, ◌+◌, ◌-◌, Bool, true, false, cond, ◌&&◌, List, [], ◌∷◌, ◌++◌, map, filter, Option, Some, None, nat_le}
+use Rattle.std.specs.Option.{option_map_or}
 use Rattle.office_values.specs.Ids.{same_id}
 use Rattle.office_base.specs.Tables.{same_number, Tables, notice_at, lot_at, award_at, contract_at, lots_of_notice, envelopes_of_lot}
 use Rattle.office_commands.specs.declared.budget.BudgetRow.{BudgetRow}
@@ -51,16 +52,11 @@ abbrev pub estimate_in : List NewLot → List ℕ → ℕ → ℕ
 estimate_in [] id before = before
 estimate_in (lot ∷ lots) id before = cond (same_id lot.id id) lot.estimate (estimate_in lots id before)
 
--- The price of the winning tender; the earlier amount if there is none.
-abbrev pub price_after : Option EnvelopeRow → ℕ → ℕ
-price_after None before = before
-price_after (Some e) before = price_of e
-
--- The amount that is held for a lot after a command. `before` is the amount held before it.
+-- The amount that is held for a lot after a command: a new lot's estimate, or the price of the tender that wins. `before` is the amount held before it.
 abbrev pub holding_after : Tables → Command → List ℕ × List ℕ → ℕ → ℕ
 holding_after s (Publish notice content) lot before = cond (same_id notice lot.0) (estimate_in content.lots lot.1 before) before
 holding_after s (Award notice id) lot before =
-    cond (same_lot (notice, id) lot) (price_after (winner (notice_at notice s) (envelopes_of_lot notice id s)) before) before
+    cond (same_lot (notice, id) lot) (option_map_or price_of (winner (notice_at notice s) (envelopes_of_lot notice id s)) before) before
 holding_after s command lot before = before
 
 -- The price of the lot's last award that had a winner; its published estimate if there was none.

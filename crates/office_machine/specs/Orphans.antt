@@ -37,13 +37,9 @@ lacks_seal s e = not (is_some (seal_at e.receipt s))
 abbrev pub lacks_its_security : Tables → EnvelopeRow → Bool
 lacks_its_security s e = lacks_security e (security_of_envelope (Some e) s)
 
--- The lot of this tender is missing.
-abbrev pub lacks_lot : Tables → EnvelopeRow → Bool
-lacks_lot s e = not (is_some (lot_at (e.notice, e.lot) s))
-
 -- The seal, the lot or the security of this tender is missing, if there is a tender.
 abbrev pub is_torn : Tables → Option EnvelopeRow → Bool
-is_torn s o = holds_of (lacks_seal s) o || holds_of (lacks_lot s) o || holds_of (lacks_its_security s) o
+is_torn s o = holds_of (lacks_seal s) o || holds_of (λ (e : EnvelopeRow). not (is_some (lot_at (e.notice, e.lot) s))) o || holds_of (lacks_its_security s) o
 
 -- A contract, an entry or a performance security already has the number of this award.
 abbrev pub contract_is_taken : ℕ → Tables → Bool

@@ -26,10 +26,6 @@ is_there (OfContract contract) t = is_some (contract_at contract t)
 abbrev pub has_rows : {X : Type 0} → List X → Bool
 has_rows rows = not (nat_eq (length rows) 0)
 
--- The awards of a lot.
-abbrev pub awards_on_lot : List ℕ → List ℕ → Tables → List AwardRow
-awards_on_lot notice lot t = filter (λ (a : AwardRow). same_id a.notice notice && same_id a.lot lot) t.awards
-
 -- Some row refers to this one. A tender security has the number of a receipt, a contract and its performance security have the number of an award.
 abbrev pub is_named : Parent → Tables → Bool
 is_named (OfLine line) t = has_rows (lots_of_line line t)
@@ -37,7 +33,8 @@ is_named (OfNotice notice) t =
     has_rows (lots_of_notice notice t) || has_rows (envelopes_of_notice notice t) || has_rows (releases_of_notice notice t) || has_rows (securities_of_notice notice t)
     || has_rows (awards_of_notice notice t) || has_rows (contracts_of_notice notice t) || is_some (late_at notice t) || is_some (compiled_at notice t)
 is_named (OfLot notice lot) t =
-    has_rows (envelopes_of_lot notice lot t) || has_rows (securities_of_lot notice lot t) || has_rows (awards_on_lot notice lot t) || has_rows (contracts_of_lot (notice, lot) t)
+    has_rows (envelopes_of_lot notice lot t) || has_rows (securities_of_lot notice lot t)
+    || has_rows (filter (λ (a : AwardRow). same_id a.notice notice && same_id a.lot lot) t.awards) || has_rows (contracts_of_lot (notice, lot) t)
 is_named (OfReceipt receipt) t = is_some (seal_at receipt t) || is_some (security_at receipt t)
 is_named (OfAward award) t = is_some (contract_at award t) || has_rows (entries_of_contract award t) || is_some (performance_at award t)
 is_named (OfContract contract) t = has_rows (entries_of_contract contract t) || is_some (performance_at contract t)

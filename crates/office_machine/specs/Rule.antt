@@ -1,6 +1,6 @@
 -- The rule of a command, and the parts that rules share.
 use Rattle.std.specs.Prelude.{ℕ, Bool, ◌&&◌, List, [], map, filter, Option, Some, None, is_some, option_map}
-use Rattle.office_commands.specs.declared.item.Item.{Item}
+use Rattle.std.specs.Option.{option_map_or}
 use Rattle.office_commands.specs.declared.command.Caller.{Caller}
 use Rattle.office_values.specs.declared.refusal.Refusal.{Refusal}
 use Rattle.office_base.specs.declared.records.LotRow.{LotRow}
@@ -41,16 +41,6 @@ pub record Rule : Type 0 where
   -- The reply if it is accepted, from the office before it and the office after it.
   pub reply : Readings → Tables → Tables → ℕ → Caller → Reply
 
--- The bytes of a seal; none if the seal doesn't exist.
-abbrev pub bytes_in : Option SealRow → List ℕ
-bytes_in None = []
-bytes_in (Some seal) = seal.bytes
-
--- The items of a lot; none if the lot doesn't exist.
-abbrev pub items_of_row : Option LotRow → List Item
-items_of_row None = []
-items_of_row (Some l) = l.items
-
 -- The seal of a tender exists, and its lot.
 abbrev pub has_seal_and_lot : Tables → EnvelopeRow → Bool
 has_seal_and_lot s e = is_some (seal_at e.receipt s) && is_some (lot_at (e.notice, e.lot) s)
@@ -59,9 +49,13 @@ has_seal_and_lot s e = is_some (seal_at e.receipt s) && is_some (lot_at (e.notic
 abbrev pub sealed_of_notice : List ℕ → Tables → List EnvelopeRow
 sealed_of_notice notice s = filter is_sealed_envelope (envelopes_of_notice notice s)
 
--- A sealed tender with its bytes and the items of its lot.
+-- A sealed tender with its bytes and the items of its lot; none if the seal or the lot doesn't exist.
 abbrev pub sealed_tender : Tables → EnvelopeRow → SealedTender
-sealed_tender s e = record { envelope = e; bytes = bytes_in (seal_at e.receipt s); items = items_of_row (lot_at (e.notice, e.lot) s) }
+sealed_tender s e = record {
+  envelope = e;
+  bytes = option_map_or (λ (seal : SealRow). seal.bytes) (seal_at e.receipt s) [];
+  items = option_map_or (λ (lot : LotRow). lot.items) (lot_at (e.notice, e.lot) s) [];
+}
 
 -- The sealed tenders of a notice.
 abbrev pub sealed_tenders : List ℕ → Tables → List SealedTender

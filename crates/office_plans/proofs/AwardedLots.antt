@@ -1,5 +1,5 @@
 -- The changes of an award depend on the securities of its lot only if nobody wins.
-use Rattle.office_plans.proofs.Names.{◌≡◌, ℕ, List, Option, Some, None, refl, award_puts, award_rows, decision_puts, winner, AwardRows, Tables, envelopes_of_lot, notice_at, lot_at, securities_of_lot, ClockRow, EnvelopeRow, LineRow, LotRow, NoticeRow, SecurityRow, awarded_rows, securities_unless_won}
+use Rattle.office_plans.proofs.Names.{◌≡◌, ℕ, List, Option, Some, None, refl, award_puts, award_rows, decision_puts, winner, AwardRows, Tables, envelopes_of_lot, notice_at, lot_at, securities_of_lot, EnvelopeRow, LineRow, LotRow, NoticeRow, SecurityRow, awarded_rows, securities_unless_won}
 use Rattle.office_base.specs.Parents.{line_of_lot}
 
 module _ (notice lot : List ℕ) (s : Tables) (t : ℕ) where

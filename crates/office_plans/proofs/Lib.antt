@@ -18,3 +18,4 @@ pub mod ReadTenders
 pub mod ReleaseJoins
 pub mod Silent
 pub mod Telling
+pub mod UsedFiles

@@ -24,13 +24,13 @@ pub use Rattle.ocds_release.specs.Texts.{ocid_text}
 pub use Rattle.ocds_release.specs.declared.event.Event.{Event}
 pub use Rattle.ocds_release.specs.declared.event.Party.{Party}
 pub use Rattle.ocds_release.specs.declared.tender_status.TenderStatus.{TenderStatus}
-pub use Rattle.office_base.proofs.ExactKeys.{equal_ids, same_itself}
+pub use Rattle.office_base.proofs.ExactKeys.{equal_ids, same_itself, same_id_is}
 pub use Rattle.office_base.proofs.RowLaws.Filters.{all_filter}
 pub use Rattle.office_base.proofs.RowLaws.Keyed.{found_key}
 pub use Rattle.office_base.proofs.RowLaws.Puts.{put_first}
 pub use Rattle.office_base.proofs.RowLaws.Starts.{start_of, tied, all_above, none_below}
 unfoldable pub use Rattle.office_base.specs.Deciding.{Decides}
-pub use Rattle.office_base.specs.Faults.{HasRisen, count_after, one_fault_more}
+pub use Rattle.office_base.specs.Faults.{HasRisen, one_fault_more}
 pub use Rattle.office_base.specs.Parents.{envelope_of_award, lot_of_award, notice_of_award, notice_of_contract}
 pub use Rattle.office_base.specs.RowLaws.{RowsAreKept}
 pub use Rattle.office_base.specs.Rows.{by_order, StartsAbove, IsInOrder, holds_of}
@@ -39,7 +39,7 @@ pub use Rattle.office_base.specs.Rules.{first_of}
 pub use Rattle.office_base.specs.Shelves.{CountsFaults, Looks, Meaning, LooksFollow}
 pub use Rattle.office_base.specs.Standings.{find_standing, put_standing, columns_at, standing_key, standings, columns_of_row}
 pub use Rattle.office_base.specs.States.{is_sealed}
-pub use Rattle.office_base.specs.Tables.{Tables, line_at, line_key, find_line, envelopes_of_lot, notice_at, lot_at, securities_of_lot, envelopes_of_notice, find_tenderer, put_tenderer, tenderer_key, lot_cmp, compiled_at, award_key, award_at, contract_at, envelope_at, tenderer_at, lots_of_notice, entries_of_contract, lots_of_line, lot_key}
+pub use Rattle.office_base.specs.Tables.{Tables, line_at, line_key, find_line, envelopes_of_lot, notice_at, lot_at, securities_of_lot, envelopes_of_notice, find_tenderer, put_tenderer, tenderer_key, lot_cmp, compiled_at, award_key, award_at, contract_at, envelope_at, tenderer_at, lots_of_notice, entries_of_contract, lots_of_line, lot_key, batch_at}
 pub use Rattle.office_base.specs.Transitions.{is_in_time, is_late}
 pub use Rattle.office_base.specs.declared.puts.Put.{Put}
 pub use Rattle.office_base.specs.declared.puts.Put.TheVariants.{Release, Compiled, Envelope}
@@ -59,7 +59,7 @@ pub use Rattle.office_base.specs.declared.records.TendererRow.{TendererRow}
 pub use Rattle.office_base.specs.declared.shelf.ShelfFault.{ShelfFault}
 pub use Rattle.office_base.specs.declared.standing.Columns.{Columns}
 pub use Rattle.office_base.specs.declared.standing.Standing.{Standing}
-pub use Rattle.office_commands.specs.Commands.{kind_of, IsCommand}
+pub use Rattle.office_commands.specs.Commands.{IsCommand}
 pub use Rattle.office_commands.specs.declared.budget.BudgetRow.{BudgetRow}
 pub use Rattle.office_commands.specs.declared.command.Caller.{Caller}
 pub use Rattle.office_commands.specs.declared.command.Caller.TheVariants.{Public, Clerk}
@@ -90,10 +90,11 @@ pub use Rattle.office_plans.specs.Named.{StillThere, line_of_row, standing_at, w
 pub use Rattle.office_plans.specs.Opening.{tender_read, tenders_read, HasLotOf, with_lot}
 pub use Rattle.office_plans.specs.OwnTenders.{own_envelopes, own_rows}
 pub use Rattle.office_plans.specs.Plans.{Plan}
-pub use Rattle.office_plans.specs.Published.{TellsRefusal, IsPlanned, accepted_reply}
+pub use Rattle.office_plans.specs.Published.{TellsRefusal, IsPlanned, accepted_reply, takes_memory}
 pub use Rattle.office_plans.specs.Released.{IsReleased, IsKept, as_row}
 pub use Rattle.office_plans.specs.Replies.{reply_text}
 pub use Rattle.office_plans.specs.Tenderers.{tenderer_of, tenderers_named, with_tenderers}
+pub use Rattle.office_plans.specs.Used.{first_cuts, cuts_lost_line, refusal_if_used, used_file, used_notice}
 pub use Rattle.office_plans.specs.declared.published.Released.{Released}
 pub use Rattle.office_publications.specs.AwardEvents.{sign_event, status_with, fail_event, name_in, award_event}
 pub use Rattle.office_publications.specs.ContractEvents.{end_event, pay_event, amend_contract_event}
@@ -109,7 +110,8 @@ pub use Rattle.office_publications.specs.declared.publication.Publication.{Publi
 pub use Rattle.office_values.specs.Ids.{id_cmp, same_id}
 pub use Rattle.office_values.specs.Money.{total_limit}
 pub use Rattle.office_values.specs.declared.refusal.Refusal.{Refusal}
-pub use Rattle.office_values.specs.declared.refusal.Refusal.TheVariants.{Unavailable, Forbidden}
+pub use Rattle.office_values.specs.declared.refusal.Refusal.TheVariants.{Unavailable, Forbidden, NoSuch, Exists, DeadlinePassed, InsufficientFunds, LimitReached}
+pub use Rattle.office_values.specs.declared.refusal.Thing.TheVariants.{Line}
 pub use Rattle.office_values.specs.declared.settings.Publisher.{Publisher}
 pub use Rattle.serde_json.proofs.Texts.{print-outline}
 pub use Rattle.serde_json.specs.Data.{Data, array, Members, no_members, member, put}
@@ -129,18 +131,19 @@ pub use Rattle.std.specs.FinMap.{nat_cmp-IsAntisymmetric}
 pub use Rattle.std.specs.List.{AllByRecursion, list_any, flat_map, list_all}
 pub use Rattle.std.specs.Option.{option_copied}
 pub use Rattle.std.specs.Ordering.{eq_by_cmp, is_eq, is_gt, match_ordering, nat_cmp, ordering_then}
-pub use Rattle.std.specs.Prelude.{◌≡◌, ℕ, Bool, true, false, cond, List, [], ◌∷◌, map, Option, Some, IsSome, is_some, option_and_then, ◌<◌, ◌⊎◌, ◌+◌, ◌-◌, ◌^◌, None, Result, Ok, Err, max, min, Vec, IsErrAnd, IfOk, zero, suc, ◌&&◌, nat_eq, length, ◌||◌, filter, not, ◌++◌, OnOk, option_map, IfErr, slice_get, codes}
+pub use Rattle.std.specs.Prelude.{◌≡◌, ℕ, Bool, true, false, cond, List, [], ◌∷◌, map, Option, Some, IsSome, is_some, option_and_then, ◌<◌, ◌⊎◌, ◌+◌, ◌-◌, ◌^◌, None, Result, Ok, Err, max, Vec, IsErrAnd, IfOk, zero, suc, ◌&&◌, nat_eq, length, ◌||◌, filter, not, ◌++◌, OnOk, option_map, IfErr, slice_get, codes}
 pub use Rattle.std.specs.declared.alloc.Global.{Global}
 pub use Rattle.std.specs.declared.cmp.Ordering.{Ordering}
 pub use Rattle.std.specs.declared.cmp.Ordering.TheVariants.{Less, Equal, Greater}
+pub use Rattle.tender_core.proofs.ImportsAgree.{columns_at-after_row}
 pub use Rattle.tender_core.specs.Agreeing.{ImportsAgree, AgreeOnRows, PublishesAgree, cancel_on}
 pub use Rattle.tender_core.specs.Rules.AmendNotice.{amend_notice_puts, amend_notice_rows, amend_notice_tests}
 pub use Rattle.tender_core.specs.Rules.Cancel.{is_ended_award, is_open_lot, cancel_lacks, cancel_puts, cancel_rows, cancel_tests}
-pub use Rattle.tender_core.specs.Rules.Import.{import_lacks, import_puts, import_rows, import_tests}
+pub use Rattle.tender_core.specs.Rules.Import.{import_lacks, import_puts, import_rows, import_tests, columns_after, after_row, any_while_walking, cuts_nothing, is_cut}
 pub use Rattle.tender_core.specs.Rules.Modify.{modify_lacks, modify_puts, modify_rows, modify_tests, replacing}
 pub use Rattle.tender_core.specs.Rules.Open.{is_sealed_envelope, with_reading, open_rows, open_tests, opened_with}
 pub use Rattle.tender_core.specs.Rules.Present.{is_sealed_by, present_rows, present_tests, present_puts, received}
-pub use Rattle.tender_core.specs.Rules.Publish.{publish_puts, publish_rows, publish_tests}
+pub use Rattle.tender_core.specs.Rules.Publish.{publish_puts, publish_rows, publish_tests, is_on_no_line}
 pub use Rattle.tender_core.specs.Rules.Register.{register_puts, register_rows, register_tests}
 pub use Rattle.tender_core.specs.Rules.Withdraw.{withdraw_lacks, withdraw_puts, withdraw_rows, withdraw_tests}
 pub use Rattle.tender_core.specs.Walks.{IsAtMost, AreAtMost}

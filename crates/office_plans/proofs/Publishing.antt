@@ -2,7 +2,7 @@
 use Rattle.office_plans.proofs.Names.{◌≡◌, ℕ, Bool, true, false, not, ◌||◌, cond, List, Option, Some, Err, max, ◌∙◌, ap, inl, refl, sym, Refusal, Forbidden, Publisher, Command, first_of, Looks, LooksFollow, Meaning, Tables, Put, ClockRow, is_lacking, Given, command_tests, effect, may_give, refusal_of, time_of, office_readings, given_by, IsPlanned, Asking}
 
 -- A command that its caller may give is refused exactly as its own tests say.
-refused_by : (x : Given) → may_give x.caller x.command ≡ true → refusal_of x ≡ first_of (command_tests x)
+pub refused_by : (x : Given) → may_give x.caller x.command ≡ true → refusal_of x ≡ first_of (command_tests x)
 refused_by x may = ap (λ (b : Bool). cond (not b) (Some Forbidden) (first_of (command_tests x))) may
 
 -- The tests of the command's rule are these tests on these rows, and the rows have the office's clock.

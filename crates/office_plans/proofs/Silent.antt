@@ -1,5 +1,5 @@
 -- Lemmas for a command that publishes nothing.
-use Rattle.office_plans.proofs.Names.{◌≡◌, List, [], ◌++◌, Option, Some, None, ◌∙◌, ap, append-nil, sym, Publisher, Given, effect, publication, publication_puts, puts_of, office_readings, publishing}
+use Rattle.office_plans.proofs.Names.{◌≡◌, [], ◌++◌, Option, Some, None, ◌∙◌, ap, append-nil, sym, Publisher, Given, effect, publication, publication_puts, puts_of, office_readings, publishing}
 
 -- Anything follows if the same thing is both absent and found.
 pub nothing_published : {X : Type 0} {P : Type 0} {found : Option X} {x : X} → found ≡ None → found ≡ Some x → P

@@ -1,5 +1,5 @@
 -- A refused command gets its refusal, unless a look-up failed.
-use Rattle.office_plans.proofs.Names.{◌≡◌, ◌<◌, ◌⊎◌, ◌+◌, ◌-◌, ◌^◌, ℕ, Bool, true, List, Option, Some, None, Result, Ok, Err, max, min, ◌∙◌, ap, arith, inl, inr, sym, Refusal, kind_of, Command, HasRisen, count_after, one_fault_more, first_of, CountsFaults, Looks, Meaning, Tables, ClockRow, ShelfFault, may_give, refusal_of, given_by, TellsRefusal, Asking}
+use Rattle.office_plans.proofs.Names.{◌≡◌, ◌<◌, ◌⊎◌, ◌+◌, ◌-◌, ◌^◌, ℕ, Bool, true, List, Option, Some, None, Result, Err, max, ◌∙◌, ap, arith, inl, inr, sym, Refusal, Command, HasRisen, one_fault_more, first_of, CountsFaults, Looks, Meaning, Tables, ClockRow, ShelfFault, may_give, refusal_of, given_by, TellsRefusal, IsPlanned, Publisher, Asking}
 use Rattle.office_plans.proofs.Publishing.{IsTested, refused_on}
 
 -- The count after one more fault is higher, or it was already the highest.
@@ -9,7 +9,7 @@ has_risen old new counted = grind (arith, counted)
 -- A look-up that failed is counted.
 pub fault_told : {S T V : Type 0} (M : Meaning S) (a b : S) (asking : Asking) (command : Command) (fault : ShelfFault) (result : Result T Refusal)
     → CountsFaults {T = V} M a b (Err fault) → TellsRefusal M a b (λ s. given_by asking s command) result
-fault_told M a b asking command fault result counts honest s held why refused = inr (has_risen _ _ counts.counted)
+fault_told M a b asking command fault result counts honest s held why refused small = inr (has_risen _ _ counts.counted)
 
 -- Rows that were looked up, the moment by their clock, and the answer of the decision on them.
 module _ {R : Type 0} {asking : Asking} {command : Command} {rows_of : Tables → R} {clock_in : R → ClockRow} {tests : R → ℕ → List (Bool × Refusal)}
@@ -18,13 +18,29 @@ module _ {R : Type 0} {asking : Asking} {command : Command} {rows_of : Tables �
     (answer : Option Refusal) (is : answer ≡ first_of (tests rows t)) where
   -- If the decision refuses the command, then the result is this refusal.
   pub refusal_told : (why : Refusal) → answer ≡ Some why → TellsRefusal {T = T} M a b (λ s. given_by asking s command) (Err why)
-  refusal_told why refuses honest s held own refused =
+  refusal_told why refuses honest s held own refused small =
       let same : Some why ≡ Some own = sym refuses ∙ sym (refused_on ruled rows t moment answer may is s (looked.1 honest s held)) ∙ refused in
       let are : why ≡ own = cc in
       inl (λ i. Err (are i))
 
   -- If the decision refuses nothing, then the command has no refusal, whatever the program looks up afterwards.
   pub none_to_tell : (c : S) (result : Result T Refusal) → (M.honest c → M.honest b) → answer ≡ None → TellsRefusal M a c (λ s. given_by asking s command) result
-  none_to_tell c result before allows honest s held why refused =
+  none_to_tell c result before allows honest s held why refused small =
       let differ : None ≡ Some why = sym allows ∙ sym (refused_on ruled rows t moment answer may is s (looked.1 (before honest) s held)) ∙ refused in
       absurd (cc)
+
+-- A look-up that failed after others is counted.
+pub later_told : {S T V : Type 0} (M : Meaning S) (a b c : S) (asking : Asking) (command : Command) (fault : ShelfFault) (result : Result T Refusal)
+    → M.fault_count b ≡ M.fault_count a → CountsFaults {T = V} M b c (Err fault) → TellsRefusal M a c (λ s. given_by asking s command) result
+later_told M a b c asking command fault result same counts honest s held why refused small = inr (has_risen _ _ (counts.counted ∙ ap one_fault_more same))
+
+-- The refusal of a command whose identifier is used.
+module _ {S : Type 0} (M : Meaning S) (a b : S) (asking : Asking) (command : Command) (why : Refusal) (own : Looks M a b (λ s. refusal_of (given_by asking s command) ≡ Some why)) where
+  pub used_planned : (publisher : Publisher) → Looks M a b (λ s. IsPlanned publisher (given_by asking s command) (Err why))
+  used_planned publisher = (own.0, λ honest s held. inl (own.1 honest s held))
+
+  pub used_told : {T : Type 0} → TellsRefusal {T = T} M a b (λ s. given_by asking s command) (Err why)
+  used_told honest s held other refused small =
+      let same : Some why ≡ Some other = sym (own.1 honest s held) ∙ refused in
+      let are : why ≡ other = cc in
+      inl (λ i. Err (are i))

@@ -10,5 +10,6 @@ pub mod LookedUp
 pub mod Named
 pub mod Opening
 pub mod Tenderers
+pub mod Used
 pub mod Published
 pub mod Released

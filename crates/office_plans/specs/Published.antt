@@ -1,7 +1,7 @@
 -- The plan of a command, with the release that it publishes.
 use Rattle.std.specs.Prelude.{◌≡◌, ◌⊎◌, ◌++◌, Bool, true, false, List, map, Some, None, Result, Ok, Err}
 use Rattle.office_values.specs.declared.refusal.Refusal.{Refusal}
-use Rattle.office_values.specs.declared.refusal.Refusal.TheVariants.{Unavailable}
+use Rattle.office_values.specs.declared.refusal.Refusal.TheVariants.{Exists, Unavailable}
 use Rattle.office_values.specs.declared.settings.Publisher.{Publisher}
 use Rattle.office_commands.specs.declared.commands.Command.{Command}
 use Rattle.office_commands.specs.declared.commands.Command.TheVariants as commands
@@ -49,14 +49,17 @@ abbrev pub IsPlanned : Publisher → Given → Result Plan Refusal → Type 0
 IsPlanned publisher x (Ok planned) = IsPlan publisher x planned
 IsPlanned publisher x (Err why) = (refusal_of x ≡ Some why) ⊎ (why ≡ Unavailable)
 
--- If the specification refuses the command, the result is this refusal, or the store has counted another fault.
+-- The command takes memory before it is refused so. Only an import and a publication take any, for a table of the budget lines that they name. They take none if their
+-- identifier is used.
+abbrev pub takes_memory : Command → Refusal → Bool
+takes_memory (commands.Import batch rows) Exists = false
+takes_memory (commands.Import batch rows) why = true
+takes_memory (commands.Publish notice content) Exists = false
+takes_memory (commands.Publish notice content) why = true
+takes_memory command why = false
+
+-- If the specification refuses the command with a refusal that is found without memory, the result is this refusal, or the store has counted another fault.
 abbrev pub TellsRefusal : {S T : Type 0} → Meaning S → S → S → (Tables → Given) → Result T Refusal → Type 0
 TellsRefusal M old new x result =
-    M.honest new → (s : Tables) → M.holds old s → (why : Refusal) → refusal_of (x s) ≡ Some why
+    M.honest new → (s : Tables) → M.holds old s → (why : Refusal) → refusal_of (x s) ≡ Some why → takes_memory (x s).command why ≡ false
     → (result ≡ Err why) ⊎ HasRisen (M.fault_count old) (M.fault_count new)
-
--- The command takes memory for a table of the budget lines that it names before it is decided.
-abbrev pub gathers_lines : Command → Bool
-gathers_lines (commands.Import batch rows) = true
-gathers_lines (commands.Publish notice content) = true
-gathers_lines command = false

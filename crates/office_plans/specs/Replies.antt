@@ -1,5 +1,5 @@
 -- The texts of replies: JSON objects, and the texts of the ledger, registers, minutes and evaluations.
-use Rattle.std.specs.Prelude.{ℕ, ◌++◌, List, [], ◌∷◌, map, Option, Some, None, Result, Ok, Err, codes, decimal, option_map, unwrap_or}
+use Rattle.std.specs.Prelude.{ℕ, ◌++◌, List, [], ◌∷◌, map, Option, Result, Ok, Err, codes, decimal, option_map, unwrap_or}
 use Rattle.std.specs.List.{flat_map}
 use Rattle.serde_json.specs.Data.{boolean}
 use Rattle.office_values.specs.Moments.{moment_text}
@@ -28,17 +28,7 @@ release_entry release = number_entry (codes "release") release
 abbrev pub state_entry : EnvelopeState → Member
 state_entry state = text_entry (codes "state") (state_word state)
 
--- A winner's award number, price and receipt. The reply has null in their place if nobody wins.
-abbrev pub award_number : Winning → ℕ
-award_number w = w.award
-
-abbrev pub award_price : Winning → ℕ
-award_price w = w.price
-
-abbrev pub award_tender : Winning → ℕ
-award_tender w = w.tender
-
--- The members of a reply in JSON.
+-- The members of a reply in JSON. If nobody wins, that of an award has null for the winner's award number, price and receipt.
 abbrev pub reply_entries : Reply → List Member
 reply_entries (Imported batch rows moment) = text_entry (codes "batch") batch ∷ moment_entry moment ∷ number_entry (codes "rows") rows ∷ []
 reply_entries (Enrolled tenderer moment) = moment_entry moment ∷ text_entry (codes "tenderer") tenderer ∷ []
@@ -50,8 +40,8 @@ reply_entries (Received digest receipt security state moment) =
 reply_entries (Withdrew receipt state moment) = moment_entry moment ∷ number_entry (codes "receipt") receipt ∷ state_entry state ∷ []
 reply_entries (Examined receipt responsive moment) = moment_entry moment ∷ (codes "responsive", boolean responsive) ∷ number_entry (codes "tender") receipt ∷ []
 reply_entries (Awarded lot best release moment) =
-    count_entry (codes "award") (option_map award_number best) ∷ text_entry (codes "lot") lot ∷ moment_entry moment
-    ∷ count_entry (codes "price") (option_map award_price best) ∷ release_entry release ∷ count_entry (codes "tender") (option_map award_tender best) ∷ []
+    count_entry (codes "award") (option_map (λ (w : Winning). w.award) best) ∷ text_entry (codes "lot") lot ∷ moment_entry moment
+    ∷ count_entry (codes "price") (option_map (λ (w : Winning). w.price) best) ∷ release_entry release ∷ count_entry (codes "tender") (option_map (λ (w : Winning). w.tender) best) ∷ []
 reply_entries (Failed award release moment) = number_entry (codes "award") award ∷ moment_entry moment ∷ release_entry release ∷ []
 reply_entries (Signed contract release moment) = number_entry (codes "contract") contract ∷ moment_entry moment ∷ release_entry release ∷ []
 reply_entries (OfContract contract left release moment) =
@@ -86,8 +76,7 @@ registry_text notice rows = line (codes "REGISTER" ∷ notice ∷ []) ++ flat_ma
 
 -- The row of the tenderer who submitted a tender. A reached office always has it.
 abbrev pub presenter_of : List ℕ → Option TendererRow → TendererRow
-presenter_of tenderer None = record { tenderer = tenderer; name = []; address = []; key = [] }
-presenter_of tenderer (Some row) = row
+presenter_of tenderer row = unwrap_or row (record { tenderer = tenderer; name = []; address = []; key = [] })
 
 -- A tender in the minutes. Each opened tender was read, so its reading exists.
 abbrev pub minuted_tender : Minuted → OpenedTender
@@ -106,12 +95,9 @@ finding_of t = record {
   failed = t.failed;
 }
 
--- The lines of a lot in an evaluation, and the whole evaluation's text.
+-- The lines of a lot in an evaluation.
 abbrev pub evaluated_lines : EvaluatedLot → List ℕ
 evaluated_lines l = findings_text l.lot l.state (map finding_of l.tenders) l.awards
-
-abbrev pub evaluation_text : List ℕ → List EvaluatedLot → List ℕ
-evaluation_text notice lots = evaluation_head notice ++ flat_map evaluated_lines lots ++ evaluation_end
 
 -- The text of a reply. It is empty for a refusal, which has a response of its own.
 abbrev pub reply_text : Reply → List ℕ
@@ -120,7 +106,7 @@ reply_text (LedgerSeen rows) = ledger_text rows
 reply_text (Registry notice rows) = registry_text notice rows
 reply_text (Minutes notice lots rows) = minutes_text notice (unwrap_or notice.opened 0) lots (map minuted_tender rows)
 reply_text (Package text) = text
-reply_text (EvaluationSeen notice lots) = evaluation_text notice lots
+reply_text (EvaluationSeen notice lots) = evaluation_head notice ++ flat_map evaluated_lines lots ++ evaluation_end
 reply_text reply = object_text (reply_entries reply)
 
 -- The refusal, or else the reply's text.

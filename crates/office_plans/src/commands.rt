@@ -1,10 +1,10 @@
 //! Plans for all commands, over any store. Each command has a file of its own.
-ghost use Rattle.std.specs.Prelude.{◌≡◌, true, false};
+ghost use Rattle.std.specs.Prelude.{◌≡◌, true};
 ghost use Rattle.office_commands.specs.Commands.{kind_of};
 ghost use Rattle.office_commands.specs.Rights.{may};
 ghost use Rattle.office_base.specs.Shelves.{Looks};
 ghost use Rattle.office_plans.specs.Asking.{given_by};
-ghost use Rattle.office_plans.specs.Published.{IsPlanned, TellsRefusal, gathers_lines};
+ghost use Rattle.office_plans.specs.Published.{IsPlanned, TellsRefusal};
 
 pub mod amend_contract;
 pub mod amend_notice;
@@ -31,7 +31,8 @@ use office_values::settings::Publisher;
 use std::alloc::Global;
 use tender_core::asking::Asking;
 
-/// Plans a command that the caller may give. A command that gathers budget lines may be `Unavailable` instead of refused although no look-up failed.
+/// Plans a command that the caller may give. An import or a publication may be `Unavailable` instead of refused although no look-up failed, but not instead of
+/// `Exists`.
 pub fn plan_command<H: Lookups>(
     alloc: Global,
     shelf: &mut H,
@@ -41,7 +42,7 @@ pub fn plan_command<H: Lookups>(
 ) -> Result<Planned, Refusal>
     requires { may asking.now.caller.now (kind_of command) ≡ true }
     ensures looks { Looks H.meaning shelf.old shelf.new (λ s. IsPlanned publisher.now (given_by asking.now s command.entry) result) }
-    ensures tells { gathers_lines command.entry ≡ false → TellsRefusal H.meaning shelf.old shelf.new (λ s. given_by asking.now s command.entry) result }
+    ensures tells { TellsRefusal H.meaning shelf.old shelf.new (λ s. given_by asking.now s command.entry) result }
 {
     match command {
         Command::Import { batch, rows } => import::plan(alloc, shelf, asking, batch, rows),

@@ -18,4 +18,5 @@ pub mod release_numbers;
 mod replies;
 mod standings;
 mod tenderers;
+mod used;
 pub mod words;

@@ -1,11 +1,12 @@
 //! Rows that are missing, rows whose parent is, and numbers that a row has already. An office that its commands made has none of these.
-ghost use Rattle.std.specs.Prelude.{◌≡◌, ◌+◌, ◌&&◌, ◌||◌, OnOk, false, is_some, option_map};
+ghost use Rattle.std.specs.Prelude.{◌≡◌, ◌+◌, ◌&&◌, ◌||◌, OnOk, false, is_some, not, option_map};
 ghost use Rattle.std.specs.List.{list_any};
 ghost use Rattle.office_base.specs.Rows.{holds_of};
 ghost use Rattle.office_base.specs.Shelves.{Looks, LooksUp};
 ghost use Rattle.office_base.specs.Standings.{columns_at};
-ghost use Rattle.office_base.specs.Tables.{award_at, envelope_at};
-ghost use Rattle.office_machine.specs.Orphans.{contract_is_taken, has_rows_of_notice, is_torn, lacks_its_security, lacks_lot, lacks_seal, reserves_another};
+ghost use Rattle.office_base.specs.Tables.{award_at, envelope_at, lot_at};
+ghost use Rattle.office_base.specs.declared.records.EnvelopeRow.{EnvelopeRow as EnvelopeRowOf};
+ghost use Rattle.office_machine.specs.Orphans.{contract_is_taken, has_rows_of_notice, is_torn, lacks_its_security, lacks_seal, reserves_another};
 ghost use Rattle.office_machine.specs.References.{OfAward, OfContract, OfReceipt, is_named};
 ghost use Rattle.office_plans.specs.Named.{is_of_lost_line};
 
@@ -111,7 +112,7 @@ pub fn lacks_seal<H: Lookups>(
 
 // Whether the lot of this tender is missing, if there is a tender.
 fn lacks_lot<H: Lookups>(shelf: &mut H, envelope: &Option<EnvelopeRow>) -> Result<bool, ShelfFault>
-    ensures { LooksUp H.meaning shelf.old shelf.new result (λ s lacks. lacks ≡ holds_of (lacks_lot s) envelope.now) }
+    ensures { LooksUp H.meaning shelf.old shelf.new result (λ s lacks. lacks ≡ holds_of (λ (e : EnvelopeRowOf). not (is_some (lot_at (e.notice, e.lot) s))) envelope.now) }
 {
     match envelope {
         Some(row) => Ok(shelf.get_lot(&row.notice, &row.lot)?.is_none()),

@@ -1,9 +1,8 @@
 //! The standings of the budget lines that a budget file names: appropriation and free money. Each line is looked up once.
-ghost use Rattle.std.specs.Prelude.{◌≡◌, ℕ, List, IfOk, OnOk, IsSome, map};
+ghost use Rattle.std.specs.Prelude.{◌≡◌, IfOk, OnOk, IsSome, map};
 ghost use Rattle.office_values.specs.Money.{total_limit};
 ghost use Rattle.office_base.specs.Shelves.{Looks};
 ghost use Rattle.office_base.specs.Standings.{find_standing};
-ghost use Rattle.office_base.specs.Tables.{line_at};
 ghost use Rattle.office_plans.specs.Named.{StillThere, line_of_row, standing_at, standings_named, with_new_standing, with_standing};
 ghost use Rattle.tender_core.specs.Walks.{AreNamed, IsAtMost, AreAtMost};
 

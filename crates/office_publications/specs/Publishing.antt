@@ -5,7 +5,7 @@ use Rattle.office_values.specs.declared.settings.Publisher.{Publisher}
 use Rattle.office_base.specs.Tables.{notice_at}
 use Rattle.office_base.specs.declared.records.NoticeRow.{NoticeRow}
 use Rattle.office_machine.specs.Machine.{Given, Means, time_of}
-use Rattle.office_machine.specs.OfficeMeans.{office_means}
+use Rattle.office_machine.specs.OfficeMeans.{office_readings}
 use Rattle.office_machine.specs.Publications.{published_for}
 use Rattle.office_machine.specs.Counted.{releases_in}
 use Rattle.office_machine.specs.Releases.{MakesReleases}
@@ -27,7 +27,7 @@ release_text publisher x = option_map (text_by publisher x) (event_of x.before x
 
 -- The parameters of the specification for an office that publishes.
 abbrev pub publishing : Publisher → Means
-publishing publisher = office_means (release_text publisher)
+publishing publisher = record { readings = office_readings; release = release_text publisher }
 
 -- The law: a release is made of each command that publishes.
 abbrev pub ReleasesAreMade : Type 0

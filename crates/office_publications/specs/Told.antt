@@ -47,13 +47,9 @@ pub record AreInSequence (notice : List ℕ) (s : Tables) : Type 0 where
 abbrev pub ReleasesAreInSequence : Type 0
 ReleasesAreInSequence = (publisher : Publisher) (s : Tables) → IsReached publisher s → (notice : List ℕ) → AreInSequence notice s
 
--- The row with this number exists, and has a release of the process with this `ocid`, as the office writes it.
-abbrev pub CanBeShown : (ocid notice : List ℕ) → ℕ → Tables → Type 0
-CanBeShown ocid notice seq s = (r : ReleaseRow) × (release_at (notice, seq) s ≡ Some r) × IsWrittenRelease ocid r.text
-
--- This is true of each release of the notice up to this number.
+-- Each release of the notice up to this number exists, and is one of the process with this `ocid`, as the office writes it.
 abbrev pub AreAllThere : (ocid notice : List ℕ) → ℕ → Tables → Type 0
-AreAllThere ocid notice count s = (k : ℕ) → k < count → CanBeShown ocid notice (k + 1) s
+AreAllThere ocid notice count s = (k : ℕ) → k < count → (r : ReleaseRow) × (release_at (notice, k + 1) s ≡ Some r) × IsWrittenRelease ocid r.text
 
 -- The notice has the releases that its row counts, each as this publisher's office writes it, and no others. It is asked of any office, even of one to which no
 -- commands lead.

@@ -1,21 +1,5 @@
 -- The query `after=ID` asks for the page after ID.
-use Rattle.std.specs.Prelude.{◌≡◌, ◌≢◌, ℕ, ◌<◌, Bool, true, false, IsTrue, if◌then◌else◌, List, [], ◌∷◌, ◌++◌, length, codes, All, Option, Some, None, Ok}
-use Rattle.std.proofs.Common.{refl, sym, ap, ◌∙◌, subst, arith}
-use Rattle.std.proofs.lemmas.List.Elements.{All-nil, All-cons, All-append, All-weaker}
-use Rattle.std.proofs.lemmas.Str.{is_utf8-from_IsUtf8}
-use Rattle.std.specs.Str.{is_utf8}
-use Rattle.std.specs.Str.Lossy.{utf8_lossy}
-use Rattle.form_urlencoded.specs.Form.{IsPlain, decode, raw_pairs, split_once, split_pair}
-use Rattle.form_urlencoded.proofs.FormLemmas.{decode_plain, raw_pairs-nil, raw_pairs_first, split_once_after_at, split_once_after_none, split_once_before_at, split_once_before_none}
-use Rattle.office_values.specs.Ids.{IsId, is_id_byte}
-use Rattle.office_values.proofs.FieldTests.{passes_id}
-use Rattle.office_values.proofs.Plain.{id_is_utf8}
-use Rattle.office_requests.specs.AfterAsked.{AfterAsksForId}
-use Rattle.office_requests.specs.Fields.{field_or_refusal}
-use Rattle.office_requests.specs.Forms.{identifier_of}
-use Rattle.office_requests.specs.Parameters.{after_in, after_with, decoded, given_from, given_in, with_pair, with_value}
-use Rattle.office_requests.specs.declared.parameters.Given.{Given}
-use Rattle.office_requests.specs.declared.parameters.Given.TheVariants.{Absent, Right}
+use Rattle.office_requests.proofs.Names.{◌≡◌, ◌≢◌, ℕ, ◌<◌, Bool, true, false, IsTrue, if◌then◌else◌, List, [], ◌∷◌, ◌++◌, length, All, Option, Some, None, Ok, refl, sym, ap, ◌∙◌, subst, arith, All-nil, All-cons, All-append, All-weaker, is_utf8-from_IsUtf8, is_utf8, utf8_lossy, IsPlain, raw_pairs, split_once, split_pair, decode_plain, raw_pairs-nil, raw_pairs_first, split_once_after_at, split_once_after_none, split_once_before_at, split_once_before_none, IsId, is_id_byte, passes_id, id_is_utf8, AfterAsksForId, field_or_refusal, identifier_of, after_in, after_with, decoded, given_from, given_in, with_pair, with_value, Absent, Right}
 
 -- a byte of an identifier
 abbrev IsOwn : ℕ → Type 0

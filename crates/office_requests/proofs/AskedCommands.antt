@@ -1,38 +1,9 @@
 -- A command that a request asks for can be given: no two lots of a new notice have the same identifier.
-use Rattle.std.proofs.Common.{◌≡◌, ℕ, Bool, true, false, List, Option, Some, None, Result, Ok, Err, refl, sym, subst, ◌⊎◌, inl, inr}
-use Rattle.std.specs.Prelude.{◌^◌, not, ◌&&◌, nat_le, length, if◌then◌else◌, IfOk}
-use Rattle.serde_json.specs.Data.{Data}
+use Rattle.office_requests.proofs.Names.{◌≡◌, ℕ, Bool, true, false, List, Some, None, Result, Ok, Err, refl, sym, subst, ◌⊎◌, inl, inr, ◌^◌, not, ◌&&◌, nat_le, length, if◌then◌else◌, IfOk, Data, Refusal, Forbidden, Unavailable, IsCommand, repeats_id, lot_id, BudgetRow, Caller, CommandKind, NewLot, Criteria, LateWithdrawal, NewNotice, RequestView, CanBeAsked, WhatIsAskedCanBeGiven, asked_by_route, asked_by, command_at, may_ask, import_of, registration_in, notice_amendment_in, cancellation_in, examination_in, contract_amendment_in, payment_in, ending_in, sealed_in, ◌>>=◌, field_or_refusal, text_in, text_line_in, flag_in, number_in, perhaps_number_in, identifier_of, digest_of, change_of, moment_of, query_of, security_in, criteria_in, late_in, performance_in, distinct, lots_in, new_notice_in, publication_in, Asked, Endpoint, Commands, Queries, Named, Within, Numbered, Route}
 use Rattle.office_values.specs.declared.refusal.Field.TheVariants as fields
-use Rattle.office_values.specs.declared.refusal.Refusal.{Refusal}
-use Rattle.office_values.specs.declared.refusal.Refusal.TheVariants.{Forbidden, Unavailable}
-use Rattle.office_commands.specs.Commands.{IsCommand}
-use Rattle.office_commands.specs.Identified.{repeats_id}
-use Rattle.office_commands.specs.Lots.{lot_id}
-use Rattle.office_commands.specs.declared.budget.BudgetRow.{BudgetRow}
-use Rattle.office_commands.specs.declared.command.Caller.{Caller}
-use Rattle.office_commands.specs.declared.command.CommandKind.{CommandKind}
 use Rattle.office_commands.specs.declared.command.CommandKind.TheVariants as kinds
 use Rattle.office_commands.specs.declared.commands.Command.TheVariants as commands
-use Rattle.office_commands.specs.declared.lot.NewLot.{NewLot}
-use Rattle.office_commands.specs.declared.notice.Criteria.{Criteria}
-use Rattle.office_commands.specs.declared.notice.LateWithdrawal.{LateWithdrawal}
-use Rattle.office_commands.specs.declared.notice.NewNotice.{NewNotice}
-use Rattle.office_wire.specs.Request.{RequestView}
-use Rattle.office_requests.specs.Asking.{CanBeAsked, WhatIsAskedCanBeGiven, asked_by_route, asked_by, command_at, may_ask}
-use Rattle.office_requests.specs.Bodies.{import_of, registration_in, notice_amendment_in, cancellation_in, examination_in}
-use Rattle.office_requests.specs.Bodies.{contract_amendment_in, payment_in, ending_in, sealed_in}
-use Rattle.office_requests.specs.Fields.{◌>>=◌, field_or_refusal, text_in, text_line_in, flag_in, number_in, perhaps_number_in}
-use Rattle.office_requests.specs.Forms.{identifier_of, digest_of, change_of}
-use Rattle.office_requests.specs.Moments.{moment_of}
-use Rattle.office_requests.specs.Parameters.{query_of, security_in}
-use Rattle.office_requests.specs.Publications.{criteria_in, late_in, performance_in, distinct, lots_in, new_notice_in, publication_in}
-use Rattle.office_requests.specs.declared.asked.Asked.{Asked}
-use Rattle.office_requests.specs.declared.asked.Asked.TheVariants.{Does, Looks}
-use Rattle.office_requests.specs.declared.route.Endpoint.{Endpoint}
-use Rattle.office_requests.specs.declared.route.Endpoint.TheVariants.{Commands, Queries}
 use Rattle.office_requests.specs.declared.route.Place.{Place}
-use Rattle.office_requests.specs.declared.route.Place.TheVariants.{Nowhere, Named, Within, Numbered}
-use Rattle.office_requests.specs.declared.route.Route.{Route}
 
 -- the read value has the property, or a refusal was read
 unfoldable IsRead : {A : Type 0} → (A → Type 0) → Result A Refusal → Type 0

@@ -1,22 +1,9 @@
 -- A body that doesn't begin as an object has none.
-use Rattle.std.proofs.Common.{◌≡◌, ℕ, zero, suc, Bool, true, false, ◌&&◌, ◌||◌, cond, ◌==◌, List, [], ◌∷◌, Option, Some, None, Err, refl, length, option_map, option_and_then}
-use Rattle.std.specs.Prelude.{if◌then◌else◌}
-use Rattle.std.specs.Option.{option_map_or}
-use Rattle.std.specs.Str.{is_utf8}
-use Rattle.std.proofs.lemmas.Bool.{true≢false, false≢true}
+use Rattle.office_requests.proofs.Names.{◌≡◌, ℕ, zero, suc, Bool, true, false, ◌&&◌, ◌||◌, cond, ◌==◌, List, [], ◌∷◌, Option, Some, None, Err, refl, length, option_map, option_and_then, if◌then◌else◌, option_map_or, is_utf8, true≢false, false≢true, Lexeme, token, comma, colon, quote, backslash, operator, space, other, between, lex, lex_byte, string_token, fresh, begins_colon, place_token, punctuate, tokens, content, plain, Token, begin_object, end_object, begin_array, end_array, key, string, number, boolean, null, bad, is_operator, is_space, head, ends_word, after_number, number_before, word, Data, read, of_json, of_items, number_of, max_depth, Body, BadBody, begins_object, object_if, object_in_body}
 use Rattle.json.specs.Ascii as ascii
 use Rattle.json.specs.Json as json
-use Rattle.json.specs.Lex.{Lexeme, token, comma, colon, quote, backslash, operator, space, other, between, lex, lex_byte, string_token}
-use Rattle.json.specs.Lex.{Place, fresh, begins_colon, place_token, punctuate, tokens}
-use Rattle.json.specs.Text.{content, plain}
-use Rattle.json.specs.Token.{Token, begin_object, end_object, begin_array, end_array, key, string, number, boolean, null, bad}
-use Rattle.json.specs.Word.{is_operator, is_space, head, ends_word, after_number, number_before, word}
-use Rattle.serde_json.specs.Data.{Data}
+use Rattle.json.specs.Lex.{Place}
 use Rattle.serde_json.specs.Data as data_of
-use Rattle.serde_json.specs.Read.{read, of_json, of_items, number_of, max_depth}
-use Rattle.office_values.specs.declared.refusal.BadPart.TheVariants.{Body}
-use Rattle.office_values.specs.declared.refusal.Refusal.TheVariants.{BadBody}
-use Rattle.office_requests.specs.Bodies.{begins_object, object_if, object_in_body}
 
 -- The first token.
 

@@ -1,13 +1,5 @@
 -- The elements of an array, one more at a time.
-use Rattle.std.proofs.Common.{◌≡◌, ℕ, ◌+◌, ◌≤◌, ◌<◌, List, [], ◌∷◌, ◌++◌, length, drop, Result, Ok, Err, refl, sym, ap, ◌∙◌, append_assoc, add-one, get_or, suc}
-use Rattle.std.proofs.Math.Seq.{drop-cons}
-use Rattle.std.proofs.lemmas.List.{drop_all, append-nil}
-use Rattle.serde_json.specs.Data.{Data, item}
-use Rattle.serde_json.specs.View.{items_view, view}
-use Rattle.serde_json.specs.declared.value.Value.{Value}
-use Rattle.office_values.specs.declared.refusal.Refusal.{Refusal}
-use Rattle.office_requests.specs.Fields.{◌>>=◌}
-use Rattle.office_requests.specs.Publications.{each_of}
+use Rattle.office_requests.proofs.Names.{◌≡◌, ℕ, ◌+◌, ◌≤◌, ◌<◌, List, [], ◌∷◌, ◌++◌, length, drop, Result, Ok, Err, refl, sym, ap, ◌∙◌, append_assoc, add-one, get_or, suc, drop-cons, drop_all, append-nil, Data, item, items_view, view, Value, Refusal, ◌>>=◌, each_of}
 
 -- the read elements, followed by those that are still to be read
 abbrev pub with_done : {A : Type 0} → List A → Result (List A) Refusal → Result (List A) Refusal

@@ -1,8 +1,5 @@
 -- The read value is the defined one, or memory was too small.
-use Rattle.std.proofs.Common.{◌≡◌, ◌⊎◌, inl, inr, Result, Ok, Err, sym, ap}
-use Rattle.office_values.specs.declared.refusal.Refusal.{Refusal}
-use Rattle.office_values.specs.declared.refusal.Refusal.TheVariants.{Unavailable}
-use Rattle.office_requests.specs.Inside.Answers.{ReadsAs}
+use Rattle.office_requests.proofs.Names.{◌≡◌, ◌⊎◌, inl, inr, Result, Ok, Err, sym, ap, Refusal, Unavailable, ReadsAs}
 
 pub read_or_wanting : {A : Type 0} (result wanted : Result A Refusal) → ReadsAs result wanted → (result ≡ wanted) ⊎ (result ≡ Err Unavailable)
 read_or_wanting (Ok value) wanted is = inl (sym is)

@@ -1,9 +1,5 @@
 -- The value that is read from a text or a number is the one that the definitions say.
-use Rattle.std.proofs.Common.{◌≡◌, ℕ, ◌<◌, ◌≤◌, ◌⊎◌, inl, inr, List, Bool, true, false, Option, Some, None, Result, Ok, Err, IfSome, IfNone, IfOk, refl, sym, arith}
-use Rattle.std.specs.Prelude.{nat_le, is_some, if◌then◌else◌}
-use Rattle.std.proofs.lemmas.Bool.{le-leb, leb-true, and_parts}
-use Rattle.office_values.specs.Fields.{is_id, is_text_line}
-use Rattle.office_requests.specs.Forms.{passing, identifier_of, line_of, is_between, number_between}
+use Rattle.office_requests.proofs.Names.{◌≡◌, ℕ, ◌<◌, ◌≤◌, ◌⊎◌, inl, inr, List, Bool, true, false, Option, Some, None, Result, Ok, Err, IfSome, IfNone, IfOk, refl, sym, arith, nat_le, is_some, if◌then◌else◌, le-leb, leb-true, and_parts, is_id, is_text_line, passing, identifier_of, line_of, is_between, number_between}
 
 -- if the read value is the text, and exists exactly if the text passes, it is the text by its test
 kept : (passes : Bool) (text : List ℕ) (read : Option (List ℕ)) → IfSome read (λ t. t ≡ text) → is_some read ≡ passes

@@ -1,3 +1,4 @@
+pub mod Names
 pub mod MomentReads
 pub mod FormSteps
 pub mod FieldSteps

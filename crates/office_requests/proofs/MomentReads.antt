@@ -1,13 +1,5 @@
 -- Each moment is read from its own text.
-use Rattle.std.proofs.Common.{◌≡◌, ℕ, zero, suc, ◌+◌, ◌-◌, ◌*◌, ◌/◌, ◌%◌, ◌≤◌, Bool, true, false, List, Option, Some, None, IfSome, IfNone, refl, sym, arith, ◌∙◌, pos}
-use Rattle.std.specs.Prelude.{nat_lt, nat_le, ◌&&◌, nat_eq, if◌then◌else◌}
-use Rattle.std.specs.Cmp.Lexicographic.{pointwise}
-use Rattle.std.proofs.lemmas.Bool.{le-leb, leb-true, and_parts}
-use Rattle.std.proofs.lemmas.Bool.Decides.{nat_tests}
-use Rattle.std.proofs.lemmas.Slice.Eq.{bytes_eq-Decides}
-use Rattle.jiff_core.specs.Calendar.{days_in_year, days_in_month}
-use Rattle.office_values.specs.Moments.{last_moment, year_after, month_after, year_of, civil_date, moment_text, IsMomentText}
-use Rattle.office_requests.specs.Moments.{days_to_year, days_to_month, day_number, two_at, second_named, moment_if, moment_of, MomentsAreTheirTexts}
+use Rattle.office_requests.proofs.Names.{◌≡◌, ℕ, zero, suc, ◌+◌, ◌-◌, ◌*◌, ◌/◌, ◌%◌, ◌≤◌, Bool, true, false, List, Option, Some, None, IfSome, IfNone, refl, sym, arith, ◌∙◌, pos, nat_lt, nat_le, ◌&&◌, nat_eq, if◌then◌else◌, pointwise, le-leb, leb-true, and_parts, nat_tests, bytes_eq-Decides, days_in_year, days_in_month, last_moment, year_after, month_after, year_of, civil_date, moment_text, IsMomentText, days_to_year, days_to_month, day_number, two_at, second_named, moment_if, moment_of, MomentsAreTheirTexts}
 
 -- counting off years keeps the day
 year_kept : (most y d : ℕ) → 1970 ≤ y → days_to_year ((year_after most y d).0 - 1970) + (year_after most y d).1 ≡ days_to_year (y - 1970) + d

@@ -1,23 +1,5 @@
 -- The definitions that a proof unfolds to compute the meaning of a literal request.
-use Rattle.std.specs.Prelude.{⊤}
-use Rattle.std.specs.Str.{is_utf8, chars}
-use lib.Utf8.{encode}
-use Rattle.csv.proofs.OnLiterals.{csv_on_literals}
-use Rattle.form_urlencoded.proofs.OnLiterals.{form_urlencoded_on_literals}
-use Rattle.hex.proofs.OnLiterals.{hex_on_literals}
-use Rattle.matchit.proofs.OnLiterals.{matchit_on_literals}
-use Rattle.serde_json.proofs.OnLiterals.{serde_json_on_literals}
-use Rattle.office_values.specs.Fields.{is_id, is_text_line}
-use Rattle.office_values.specs.Moments.{moment_text, year_after, month_after}
-use Rattle.tender_papers.specs.Budget.{rows_from}
-use Rattle.office_requests.specs.Paths.{segment}
-use Rattle.office_requests.specs.Moments.{moment_of, second_named, days_to_year, days_to_month}
-use Rattle.office_requests.specs.Forms.{identifier_of, line_of, number_between, amount_of, digest_of, change_of, ending_of, basis_of, lateness_of}
-use Rattle.office_requests.specs.Fields.{text_at, flag_at, number_at, field_or_refusal, perhaps_number_in, absent_in}
-use Rattle.office_requests.specs.Bodies.{object_in_body, registration_in, notice_amendment_in, cancellation_in, examination_in, contract_amendment_in, named_in, performance_of, payment_in, ending_in, sealed_in}
-use Rattle.office_requests.specs.Publications.{each_of, array_at, elements_at, new_item_of, items_of, new_lot_of, lots_in, criteria_with, criteria_in, late_in, performance_in, new_notice_in}
-use Rattle.office_requests.specs.Parameters.{given_from, security_in, after_in}
-use Rattle.office_requests.specs.Asking.{command_at, query_at, asked_by}
+use Rattle.office_requests.proofs.Names.{⊤, is_utf8, chars, encode, csv_on_literals, form_urlencoded_on_literals, hex_on_literals, matchit_on_literals, serde_json_on_literals, is_id, is_text_line, moment_text, year_after, month_after, rows_from, segment, moment_of, second_named, days_to_year, days_to_month, identifier_of, line_of, number_between, amount_of, digest_of, change_of, ending_of, basis_of, lateness_of, text_at, flag_at, number_at, field_or_refusal, perhaps_number_in, absent_in, object_in_body, registration_in, notice_amendment_in, cancellation_in, examination_in, contract_amendment_in, named_in, performance_of, payment_in, ending_in, sealed_in, each_of, array_at, elements_at, new_item_of, items_of, new_lot_of, lots_in, criteria_with, criteria_in, late_in, performance_in, new_notice_in, given_from, security_in, after_in, command_at, query_at, asked_by}
 
 -- reading texts and numbers
 unfoldable pub forms_on_literals : ⊤

@@ -1,12 +1,5 @@
 -- The pairs of a query, one more at a time.
-use Rattle.std.proofs.Common.{◌≡◌, ◌∙◌, ℕ, List, [], ◌∷◌, Option, refl}
-use Rattle.std.specs.Prelude.{Bool, true, false, if◌then◌else◌}
-use Rattle.std.specs.Str.{is_utf8}
-use Rattle.std.proofs.lemmas.Str.{IsUtf8-from_is_utf8, utf8_lossy-IsUtf8}
-use Rattle.std.specs.Str.Lossy.{utf8_lossy}
-use Rattle.form_urlencoded.specs.Form.{decode}
-use Rattle.office_requests.specs.Parameters.{decoded, with_pair, given_from}
-use Rattle.office_requests.specs.declared.parameters.Given.{Given}
+use Rattle.office_requests.proofs.Names.{◌≡◌, ◌∙◌, ℕ, List, [], ◌∷◌, Option, refl, Bool, true, false, if◌then◌else◌, is_utf8, IsUtf8-from_is_utf8, utf8_lossy-IsUtf8, utf8_lossy, decode, decoded, with_pair, given_from, Given}
 
 -- a text as it was decoded
 decoded_is : (bytes text : List ℕ) → text ≡ utf8_lossy (decode bytes) → text ≡ decoded bytes

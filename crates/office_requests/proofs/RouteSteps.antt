@@ -1,10 +1,5 @@
 -- From a path to its route.
-use Rattle.std.proofs.Common.{◌≡◌, ℕ, List, refl}
-use Rattle.std.specs.Prelude.{Bool, true, false, option_and_then}
-use Rattle.std.specs.Str.{IsUtf8, is_utf8}
-use Rattle.std.specs.Prelude.{None}
-use Rattle.std.proofs.lemmas.Str.{IsUtf8-from_is_utf8, is_utf8-from_IsUtf8}
-use Rattle.office_requests.specs.Routing.{asked_at, route_with, route_at}
+use Rattle.office_requests.proofs.Names.{◌≡◌, ℕ, List, refl, Bool, true, false, option_and_then, IsUtf8, is_utf8, None, IsUtf8-from_is_utf8, is_utf8-from_IsUtf8, asked_at, route_with, route_at}
 
 false_unless : (b : Bool) (P : Type 0) → (b ≡ true → P) → ¬ P → b ≡ false
 false_unless true P means none = absurd (none (means refl))

@@ -1,7 +1,6 @@
 -- Worked examples of requests, computed.
-use Rattle.std.proofs.Common.{refl}
+use Rattle.office_requests.proofs.Names.{refl, RoutesAreTaken, PathsAreRefused, BodiesAreRefused, PublicationsAreRefused, TendersAreRefused, LooksAreRefused}
 use Rattle.office_requests.proofs.OnLiterals.{requests_on_literals}
-use Rattle.office_requests.specs.WorkedRequests.{RoutesAreTaken, PathsAreRefused, BodiesAreRefused, PublicationsAreRefused, TendersAreRefused, LooksAreRefused}
 
 pub routes : RoutesAreTaken
 unfolding requests_on_literals

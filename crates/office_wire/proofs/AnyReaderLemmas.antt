@@ -1,10 +1,5 @@
 -- The requests of the grammar.
-use Rattle.std.proofs.Common.{◌≡◌, ◌++◌, length, Ok, refl, sym}
-use Rattle.std.proofs.lemmas.List.{append-nil}
-use Rattle.httparse.specs.Grammar.{print_request}
-use Rattle.office_wire.specs.AnyReader.{IsWellFormed, IsWellFormedHead}
-use Rattle.office_wire.specs.Fields.{framing_of}
-use Rattle.office_wire.specs.Request.{RequestView}
+use Rattle.office_wire.proofs.Names.{◌≡◌, ◌++◌, length, Ok, refl, sym, append-nil, print_request, IsWellFormed, IsWellFormedHead, framing_of, RequestView}
 
 -- a head followed by a body of the length that it announces is a request of the grammar
 pub well_formed : (r : RequestView) → IsWellFormedHead r.head → framing_of r.head ≡ Ok (length r.body) → IsWellFormed r

@@ -1,9 +1,4 @@
-use Rattle.std.proofs.Common.{◌≡◌, ◌≢◌, ℕ, ◌<◌, ◌≤◌, List, [], ◌∷◌, ◌++◌, length, take, drop, get_or, Option, Some, sym, ap, subst, arith, ◌∙◌, length-append}
-use Rattle.std.specs.Prelude.{codes}
-use Rattle.std.proofs.lemmas.List.{take_at, drop_at, take_all, take_more, append-nil, length-take}
-use Rattle.std.specs.Io.KnownBytes.{Consumes, IsAtEnd}
-use Rattle.office_values.specs.Moments.{IsMomentText}
-use Rattle.office_wire.specs.Blocks.{IsLine, HasLine, HasNoLine}
+use Rattle.office_wire.proofs.Names.{◌≡◌, ◌≢◌, ℕ, ◌<◌, ◌≤◌, List, [], ◌∷◌, ◌++◌, length, take, drop, get_or, Option, Some, sym, ap, subst, arith, ◌∙◌, length-append, codes, take_at, drop_at, take_all, take_more, append-nil, length-take, Consumes, IsAtEnd, IsMomentText, IsLine, HasLine, HasNoLine}
 use Rattle.office_wire.proofs.RequestLemmas.{consumed, ended}
 
 -- the bytes after the first three end with the line feed

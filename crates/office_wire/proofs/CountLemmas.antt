@@ -1,5 +1,5 @@
 -- Counted reads.
-use Rattle.std.proofs.Common.{◌≡◌, ℕ, ◌<◌, List, [], ◌∷◌, length, arith, refl}
+use Rattle.office_wire.proofs.Names.{◌≡◌, ℕ, ◌<◌, List, [], ◌∷◌, length, arith, refl}
 
 -- if no byte of a shown list is taken, none was shown
 pub none_shown : (shown : List ℕ) (n : ℕ) → (0 < length shown → 0 < n) → n ≡ 0 → length shown ≡ 0

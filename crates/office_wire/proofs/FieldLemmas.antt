@@ -1,8 +1,4 @@
-use Rattle.std.proofs.Common.{◌≡◌, ℕ, ◌<◌, zero, suc, List, [], ◌∷◌, length, map, take, get_or, arith, Bool, true, false}
-use Rattle.std.specs.Prelude.{cond}
-use Rattle.std.specs.List.{filter}
-use Rattle.std.specs.Str.{str_eq_ignore_ascii_case}
-use Rattle.office_wire.specs.Fields.{values_of}
+use Rattle.office_wire.proofs.Names.{◌≡◌, ℕ, ◌<◌, zero, suc, List, [], ◌∷◌, length, map, take, get_or, arith, Bool, true, false, cond, filter, str_eq_ignore_ascii_case, values_of}
 
 -- a field with that name after the first i makes one value more
 pub values_more : {X : Type 0} (name : List ℕ) (f : X → List ℕ × List ℕ) (xs : List X) (i : ℕ) (d : X) → i < length xs → str_eq_ignore_ascii_case (f (get_or xs i d)).0 name ≡ true

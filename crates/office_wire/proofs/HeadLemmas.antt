@@ -1,21 +1,4 @@
-use Rattle.std.proofs.Math.Seq.{drop-cons}
-use Rattle.std.proofs.Common.{add-one, ◌≡◌, ◌≢◌, ℕ, ◌+◌, ◌*◌, ◌-◌, ◌<◌, ◌≤◌, ◌⊎◌, inl, inr, zero, suc, List, [], ◌∷◌, ◌++◌, length, take, drop, get_or, refl, sym, ap, subst, arith, ◌∙◌, Bool, true, false, cond, append_assoc, length-append}
-use Rattle.std.specs.Prelude.{◌==◌, ◌&&◌, ◌||◌, All}
-use Rattle.std.specs.List.{list_any, flat_map}
-use Rattle.std.proofs.lemmas.List.Elements.{All-head, All-tail}
-use Rattle.std.proofs.lemmas.Bool.{eqb-true}
-use Rattle.std.proofs.lemmas.Bool.Decides.{nat_tests}
-use Rattle.std.proofs.lemmas.List.{get_or-drop, take_at, take-append-le, append-nil, same_from_push, take-append-drop}
-use Rattle.std.proofs.lemmas.List.Folds.{list_any-append}
-use Rattle.std.specs.Prelude.{IsTrue}
-use Rattle.httparse.proofs.PieceLemmas.{token_is_no_newline}
-use Rattle.httparse.specs.Grammar.{is_token_byte, is_uri_byte, EndsInTarget, RequestHead, ReadsRequest, print_request, print_blank, print_version, HasNoRequest, MayBecomeRequest, NeverHasRequest, LineEnd, crlf, lf, print_end, print_section, print_field, Field, IsField}
-use Rattle.httparse.specs.Spans.{RequestExceeds, IsRequestOf}
-use Rattle.httparse.specs.declared.spans.HeaderSpan.{HeaderSpan}
-use Rattle.httparse.specs.declared.spans.RequestSpans.{RequestSpans}
-use Rattle.office_wire.specs.Inside.HeadBytes.{spans_view}
-use Rattle.httparse.proofs.GrammarLemmas.{ReadsRequest-append, print_request-append}
-use Rattle.office_wire.specs.Head.{skip_empty, first_line_ends, StandsHead, IsLongHead, IsBadHead, view_of}
+use Rattle.office_wire.proofs.Names.{drop-cons, add-one, ◌≡◌, ◌≢◌, ℕ, ◌+◌, ◌*◌, ◌-◌, ◌<◌, ◌≤◌, ◌⊎◌, inl, inr, zero, suc, List, [], ◌∷◌, ◌++◌, length, take, drop, get_or, refl, sym, ap, subst, arith, ◌∙◌, Bool, true, false, cond, append_assoc, length-append, ◌==◌, ◌&&◌, ◌||◌, All, list_any, flat_map, All-head, All-tail, eqb-true, nat_tests, get_or-drop, take_at, take-append-le, append-nil, same_from_push, take-append-drop, list_any-append, IsTrue, token_is_no_newline, is_token_byte, is_uri_byte, EndsInTarget, RequestHead, ReadsRequest, print_request, print_blank, print_version, HasNoRequest, MayBecomeRequest, NeverHasRequest, LineEnd, crlf, lf, print_end, print_section, print_field, Field, IsField, RequestExceeds, IsRequestOf, HeaderSpan, RequestSpans, spans_view, ReadsRequest-append, print_request-append, skip_empty, first_line_ends, StandsHead, IsLongHead, IsBadHead, view_of}
 
 -- ---- empty lines
 

@@ -1,3 +1,4 @@
+pub mod Names
 pub mod CountLemmas
 pub mod FieldLemmas
 pub mod HeadLemmas

@@ -1,9 +1,5 @@
 -- Reading more bytes of a head.
-use Rattle.std.proofs.Common.{◌≡◌, ◌≢◌, ℕ, ◌-◌, ◌<◌, ◌≤◌, List, [], ◌∷◌, ◌++◌, All, length, take, Option, Some, None, OnSome, refl, sym, ap, subst, arith, ◌∙◌, append_assoc, length-append}
-use Rattle.std.proofs.lemmas.List.{take_at, nil_from_length}
-use Rattle.std.specs.Io.KnownBytes.{Keeps, Consumes, IsAtEnd}
-use Rattle.office_wire.specs.Counting.{TakesPart}
-use Rattle.office_wire.specs.Reading.{ReadsOn, IsOver}
+use Rattle.office_wire.proofs.Names.{◌≡◌, ◌≢◌, ℕ, ◌-◌, ◌<◌, ◌≤◌, List, [], ◌∷◌, ◌++◌, All, length, take, Option, Some, None, OnSome, refl, sym, ap, subst, arith, ◌∙◌, append_assoc, length-append, take_at, nil_from_length, Keeps, Consumes, IsAtEnd, TakesPart, ReadsOn, IsOver}
 use Rattle.office_wire.proofs.RequestLemmas.{consumed}
 
 -- a list is empty, or has a last element

@@ -1,14 +1,4 @@
-use Rattle.std.proofs.Common.{◌≡◌, ℕ, ◌<◌, ◌⊎◌, inl, inr, List, [], ◌++◌, length, take, drop, Option, Some, None, Result, Ok, Err, refl, sym, ap, subst, arith, ◌∙◌, length-append}
-use Rattle.std.specs.Prelude.{IsTrue}
-use Rattle.std.proofs.lemmas.List.{take_at, drop_at}
-use Rattle.std.specs.Io.KnownBytes.{Consumes, IsAtEnd}
-use Rattle.httparse.specs.Grammar.{RequestHead, print_request, HasNoRequest}
-use Rattle.httparse.proofs.GrammarLemmas.{request_unique}
-use Rattle.office_wire.specs.Head.{HeadView, StandsHead, HasNoHead, view_of, IsBadHead, IsLongHead}
-use Rattle.office_wire.specs.Fields.{framing_of}
-use Rattle.office_wire.specs.Request.{RequestView, IsRequest, HasNoWhole, IsCutBody, IsMisframed, IsRefused, is_shown, HasOneMeaning, IsPastHead, StandsAfter}
-use Rattle.office_wire.specs.Reading.{IsFrontRead, LeavesHead}
-use Rattle.office_wire.specs.declared.fault.ReadFault.{ReadFault}
+use Rattle.office_wire.proofs.Names.{◌≡◌, ℕ, ◌<◌, ◌⊎◌, inl, inr, List, [], ◌++◌, length, take, drop, Option, Some, None, Result, Ok, Err, refl, sym, ap, subst, arith, ◌∙◌, length-append, IsTrue, take_at, drop_at, Consumes, IsAtEnd, RequestHead, print_request, HasNoRequest, request_unique, HeadView, StandsHead, HasNoHead, view_of, IsBadHead, IsLongHead, framing_of, RequestView, IsRequest, HasNoWhole, IsCutBody, IsMisframed, IsRefused, is_shown, HasOneMeaning, IsPastHead, StandsAfter, IsFrontRead, LeavesHead, ReadFault}
 use Rattle.office_wire.specs.declared.fault.ReadFault.TheVariants as fault
 use Rattle.office_wire.proofs.HeadLemmas as heads
 

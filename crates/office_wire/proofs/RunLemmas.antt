@@ -1,16 +1,5 @@
 -- The facts that a loop over blocks keeps from step to step, and its end, for any answers.
-use Rattle.std.proofs.Common.{◌≡◌, ℕ, ◌+◌, ◌<◌, ◌⊎◌, inl, inr, true, List, [], ◌∷◌, ◌++◌, length, Option, Some, None, Result, Ok, Err, refl, sym, ap, subst, arith, ◌∙◌, append_assoc, length-append}
-use Rattle.std.proofs.lemmas.List.{append-nil, map-append}
-use Rattle.std.proofs.lemmas.Option.{IfSome_then}
-use Rattle.std.specs.Prelude.{⊤, IfSome}
-use Rattle.std.specs.Io.KnownBytes.{Appends, Keeps}
-use Rattle.office_wire.specs.AnyReader.{IsWellFormed}
-use Rattle.office_wire.specs.Counting.{ReaderView}
-use Rattle.office_wire.specs.Request.{IsRequest, HasNoWhole, IsCutRequest}
-use Rattle.office_wire.specs.Reading.{IsCutShort}
-use Rattle.office_wire.specs.Blocks.{Block, HasLine, HasNoLine, IsBlock, AreBlocks, IsCutBlock}
-use Rattle.office_wire.specs.Runs.{Answers, AreSteps, Ends, HasTold, Step, blocks_of, written, office_left, Ran, Served}
-use Rattle.office_wire.specs.declared.fault.RunFault.{RunFault}
+use Rattle.office_wire.proofs.Names.{◌≡◌, ℕ, ◌+◌, ◌<◌, ◌⊎◌, inl, inr, true, List, [], ◌∷◌, ◌++◌, length, Option, Some, None, Result, Ok, Err, refl, sym, ap, subst, arith, ◌∙◌, append_assoc, length-append, append-nil, map-append, IfSome_then, ⊤, IfSome, Appends, Keeps, IsWellFormed, ReaderView, IsRequest, HasNoWhole, IsCutRequest, IsCutShort, Block, HasLine, HasNoLine, IsBlock, AreBlocks, IsCutBlock, Answers, AreSteps, Ends, HasTold, Step, blocks_of, written, office_left, Ran, Served, RunFault}
 use Rattle.office_wire.specs.declared.fault.RunFault.TheVariants as ends
 use Rattle.office_wire.proofs.SendLemmas.{appends_more, appends_keep}
 use Rattle.office_wire.proofs.BlockLemmas.{short_line, same_line}

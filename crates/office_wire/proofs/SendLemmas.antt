@@ -1,7 +1,4 @@
-use Rattle.std.proofs.Common.{zero, suc, zero-add, ◌≡◌, ℕ, ◌+◌, ◌≤◌, List, [], ◌∷◌, ◌++◌, length, take, drop, Option, Some, None, sym, ap, arith, ◌∙◌, append_assoc}
-use Rattle.std.proofs.lemmas.List.{append-nil, take-append-drop}
-use Rattle.std.specs.Io.KnownBytes.{Appends, Keeps}
-use Rattle.office_wire.specs.Sending.{AppendsPart, IsPrefix}
+use Rattle.office_wire.proofs.Names.{zero, suc, zero-add, ◌≡◌, ℕ, ◌+◌, ◌≤◌, List, [], ◌∷◌, ◌++◌, length, take, drop, Option, Some, None, sym, ap, arith, ◌∙◌, append_assoc, append-nil, take-append-drop, Appends, Keeps, AppendsPart, IsPrefix}
 
 pub appends_more : (a b c : Option (List ℕ)) (x y : List ℕ) → Appends a b x → Appends b c y → Appends a c (x ++ y)
 appends_more None b c x y p q = tt

@@ -11,7 +11,7 @@ use std::io::ErrorKind;
 use std::process::ExitCode;
 
 // The product's version: that of the newest entry of CHANGELOG.md. A package has a launcher that prints the commit too (debian/launcher.in).
-const VERSION: &str = "0.5.0";
+const VERSION: &str = "0.5.1";
 
 // The words of the command line. Words that aren't UTF-8 name no job.
 fn words_of(rt: &HostRuntime) -> Result<Vec<String>, ProgramFault> {

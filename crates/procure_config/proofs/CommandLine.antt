@@ -1,25 +1,7 @@
 -- From clap's definitions about a command line to the program's own.
-use Rattle.std.proofs.Common.{◌≡◌, true, false, List, [], ◌∷◌, Option, Some, None, option_map, refl, sym, ap, ap₂, subst, inl, inr, ◌∙◌}
-use Rattle.std.specs.Prelude.{Box}
-use Rattle.std.specs.Box.{box_value}
-use Rattle.std.specs.Prelude.{Result, Ok, Err, IfErr, IsSome}
-use Rattle.std.specs.Result.{IsErrAnd}
-use Rattle.clap.specs.declared.error.Error.{Error}
-use Rattle.clap.specs.Kinds.{or_else}
-use Rattle.clap.specs.declared.error.kind.ErrorKind.{ErrorKind}
-use Rattle.clap.specs.declared.error.kind.ErrorKind.TheVariants.{MissingSubcommand, OutOfMemory}
-use Rattle.procure_config.specs.declared.fault.ProgramFault.{ProgramFault}
-use Rattle.procure_config.specs.declared.fault.ProgramFault.TheVariants.{Arguments, Settings, Store, Input, Output, Refused}
-use Rattle.procure_config.specs.Faults.{IsOfParse, no_memory}
-use Rattle.clap.specs.Words.{AddsArg, AddsSubcommand, App, HasKind, IsAmong, Kinds, kind_of, Row, Rule, Text, app_of, rule_of, is_simple, is_simple_and_free, fault_of, HasMatchesOf, subcommand_of, subcommand_name_of, subcommand_rows, subcommand_rows_of, takes, with_rule, with_subcommand}
-use Rattle.clap.specs.declared.builder.arg.Arg.{Arg}
-use Rattle.clap.specs.declared.builder.command.Command.{Command}
+use Rattle.procure_config.proofs.Names.{◌≡◌, true, false, List, [], ◌∷◌, Option, Some, None, option_map, refl, sym, ap, ap₂, subst, inl, inr, ◌∙◌, Box, box_value, Result, Ok, Err, IfErr, IsSome, IsErrAnd, Error, or_else, ErrorKind, MissingSubcommand, OutOfMemory, ProgramFault, Arguments, Store, Input, Output, Refused, IsOfParse, no_memory, AddsArg, AddsSubcommand, App, HasKind, IsAmong, Kinds, kind_of, Row, Rule, Text, app_of, rule_of, is_simple, is_simple_and_free, fault_of, HasMatchesOf, subcommand_of, subcommand_name_of, subcommand_rows, subcommand_rows_of, takes, with_rule, with_subcommand, Arg, Command, ArgMatches, SubCommand, out-ArgMatches, out-SubCommand, clap_on_literals, IsFaultOf, Asked, asked, faults_of, procure}
+use Rattle.procure_config.specs.declared.fault.ProgramFault.TheVariants.{Settings}
 use Rattle.clap.specs.declared.builder.command.Command.TheViews.{out-Command as fields_of}
-use Rattle.clap.specs.declared.parser.matches.ArgMatches.{ArgMatches}
-use Rattle.clap.specs.declared.parser.matches.SubCommand.{SubCommand}
-use Rattle.clap.specs.declared.parser.matches.ArgMatches.TheViews.{out-ArgMatches, out-SubCommand}
-use Rattle.clap.proofs.OnLiterals.{clap_on_literals}
-use Rattle.procure_config.specs.Jobs.{IsFaultOf, Asked, asked, faults_of, procure}
 
 -- A command with one more argument, and with one more subcommand.
 pub argument_added : (old new : Command) (a : Arg) (app : App) (rule : Rule) → AddsArg old a new → app_of old ≡ app → rule_of a ≡ rule → a.global ≡ false

@@ -1,14 +1,6 @@
 -- From a document to the settings of its text.
-use Rattle.std.proofs.Common.{◌≡◌, ℕ, List, Bool, true, false, Some, None, Result, Ok, Err, IfOk, IfErr, ◌⊎◌, inl, inr, refl, ◌∙◌}
-use Rattle.std.specs.Prelude.{IsUtf8}
-use Rattle.std.specs.Str.{is_utf8}
-use Rattle.std.proofs.lemmas.Str.{IsUtf8-from_is_utf8, is_utf8-from_IsUtf8}
-use Rattle.toml.specs.Data.{Members}
-use Rattle.toml.specs.Parse.{parse_document}
+use Rattle.procure_config.proofs.Names.{◌≡◌, ℕ, List, Bool, true, false, Some, None, Result, Ok, Err, IfOk, IfErr, ◌⊎◌, inl, inr, refl, ◌∙◌, IsUtf8, is_utf8, IsUtf8-from_is_utf8, is_utf8-from_IsUtf8, Members, parse_document, SettingsFault, NoMemory, NotToml, ReadsAs, settings_of, settings_in}
 use Rattle.office_values.specs.declared.settings.Settings.{Settings}
-use Rattle.procure_config.specs.declared.settings.SettingsFault.{SettingsFault}
-use Rattle.procure_config.specs.declared.settings.SettingsFault.TheVariants.{NoMemory, NotToml}
-use Rattle.procure_config.specs.Configuration.{ReadsAs, settings_of, settings_in}
 
 pub in_document : (text : List ℕ) (members : Members) → IsUtf8 text → parse_document text ≡ Some members → settings_in text ≡ settings_of members
 in_document text doc utf8 is = rw (is_utf8-from_IsUtf8 text utf8, is) refl

@@ -1,11 +1,5 @@
 -- The tests of identifiers and lines agree with the facts that their types give.
-use Rattle.std.proofs.Common.{◌≡◌, ℕ, List, Bool, true, false, Option, Some, None, Result, Ok, Err, IfSome, IfNone, IfOk, refl, arith}
-use Rattle.std.proofs.lemmas.Bool.Decides.{nat_tests}
-use Rattle.std.proofs.lemmas.List.Sums.{AllPass-from_list_all, list_all-from_AllPass}
-use Rattle.std.proofs.lemmas.Str.{IsUtf8-from_is_utf8, is_utf8-from_IsUtf8}
-use Rattle.office_values.specs.Ids.{IsId, is_id_byte}
-use Rattle.office_values.specs.Texts.{IsTextLine, is_line_byte}
-use Rattle.procure_config.specs.Configuration.{is_id_text, is_line_text, if_passing}
+use Rattle.procure_config.proofs.Names.{◌≡◌, ℕ, List, Bool, true, false, Option, Some, None, Result, Ok, Err, IfSome, IfNone, IfOk, refl, arith, nat_tests, AllPass-from_list_all, list_all-from_AllPass, IsUtf8-from_is_utf8, is_utf8-from_IsUtf8, IsId, is_id_byte, IsTextLine, is_line_byte, is_id_text, is_line_text, if_passing}
 
 id_passes : (text : List ℕ) → IsId text → is_id_text text ≡ true
 id_passes text h =

@@ -1,12 +1,5 @@
 -- The lines of an array, one more at a time.
-use Rattle.std.proofs.Common.{◌≡◌, ℕ, ◌+◌, ◌≤◌, ◌<◌, List, [], ◌∷◌, ◌++◌, length, drop, Option, Some, None, refl, sym, ap, ◌∙◌, append_assoc, get_or}
-use Rattle.std.specs.Prelude.{option_map}
-use Rattle.std.proofs.lemmas.List.{drop_all, append-nil}
-use Rattle.toml.specs.Data.{Data, Items, item, as_str}
-use Rattle.toml.specs.View.{items_view, view}
-use Rattle.toml.proofs.Views.{items_view-drop}
-use Rattle.toml.specs.declared.value.Value.{Value}
-use Rattle.procure_config.specs.Configuration.{is_line_text, lines_of, if_passing}
+use Rattle.procure_config.proofs.Names.{◌≡◌, ℕ, ◌+◌, ◌≤◌, ◌<◌, List, [], ◌∷◌, ◌++◌, length, drop, Option, Some, None, refl, sym, ap, ◌∙◌, append_assoc, get_or, option_map, drop_all, append-nil, Data, Items, item, as_str, items_view, view, items_view-drop, Value, is_line_text, lines_of, if_passing}
 
 -- The value at a place, and the values after it.
 from_here : (values : List Value) (i : ℕ) (value : Value) → i < length values → value ≡ get_or values i value

@@ -1,16 +1,5 @@
 -- From the number that clap's typed getter returns to the number in its bounds.
-use Rattle.std.proofs.Common.{◌≡◌, ◌<◌, ◌≤◌, ◌^◌, ℕ, Bool, true, false, Option, Some, None, Result, Ok, Err, refl, sym, ap, arith, ◌∙◌, ◌&&◌}
-use Rattle.std.proofs.lemmas.Bool.{leb-true, le-leb}
-use Rattle.std.specs.Prelude.{if◌then◌else◌, nat_le}
-use Rattle.std.specs.Str.Parse.{ParsesUnsigned, digits_value, without_leading_plus}
-use Rattle.clap.specs.ValueTests.{is_unsigned_in}
-use Rattle.clap.specs.Matches.{ReadsOne, one_text}
-use Rattle.clap.specs.Words.{Text, one_of, rows_of}
-use Rattle.clap.specs.declared.builder.value_parser.ValueParser.TheVariants.{Unsigned}
-use Rattle.clap.specs.declared.parser.matches.Found.{Found}
-use Rattle.clap.proofs.ValueTestLemmas.{accepts-Accepts, Accepts-accepts}
-use Rattle.clap.proofs.WalkLemmas.{both, one_text-rows}
-use Rattle.procure_config.specs.Jobs.{number_in}
+use Rattle.procure_config.proofs.Names.{◌≡◌, ◌<◌, ◌≤◌, ◌^◌, ℕ, Bool, true, false, Option, Some, None, Result, Ok, Err, refl, sym, ap, arith, ◌∙◌, ◌&&◌, leb-true, le-leb, if◌then◌else◌, nat_le, ParsesUnsigned, digits_value, without_leading_plus, is_unsigned_in, ReadsOne, one_text, Text, one_of, rows_of, Unsigned, Found, accepts-Accepts, Accepts-accepts, both, one_text-rows, number_in}
 
 -- A number that was read, if it is in the bounds.
 abbrev pub within : ℕ → Option ℕ → Option ℕ

@@ -1,5 +1,5 @@
 -- An office that was opened in files continues from their content, in every state in which these are found after they are closed.
-use Rattle.procure_programs.proofs.Names.{◌≡◌, inl, inr, Option, Some, None, Result, Ok, Err, IfOk, ℕ, ◌+◌, ◌≤◌, List, [], ◌∷◌, ◌++◌, length, refl, sym, ap, subst, ◌∙◌, arith, length-append, IfSome, ∥∥₁_elim, ∥∥₁_map, SocketAddrV4, Ghosts, Files, Image, AreClean, FileStore, file_state, over_files, HoldsAlone, IsCopied, HasCleanDisk, Publisher, Keeps, Looks, Meaning, Tables, IsSorted, Standing, ShowsTables, IsReached, DeskOf, FilesHoldOffice, IsHalfClosed, OpensHeld, LeavesNoOther, LeavesShown, sql_meaning, remembering, remembering_standing, Step, office_left, StandsAs, office_answers, StepsAreKept, StopsBy, ProgramFault, IsOfStore, Hosting, HadOfficeIfUsed, OpensEmpty, AreOfOpened, DayIn, DaysFollow, EndsPrinting, EndsServing, FilesGoOn, HalfClosesFiles, HalfPrintsFiles, HalfServesFilesAt, HaveOffice, KeysFollow, LedOn, MayBeFound, PrintsFiles, ServesFiles, ServesFilesAt, ServesOpened, StandsIn, StopsIn, TellsFirst, WasServed, WasServedRemembering, sql_standing, under_settings, IsPrintout, AreOfServingAt, ServesAt, Printout}
+use Rattle.procure_programs.proofs.Names.{◌≡◌, inl, inr, Option, Some, None, Result, Ok, Err, IfOk, ℕ, ◌+◌, ◌≤◌, List, [], ◌∷◌, ◌++◌, length, refl, sym, ap, subst, ◌∙◌, arith, length-append, IfSome, ∥∥₁_elim, ∥∥₁_map, SocketAddrV4, Ghosts, Files, Image, AreClean, FileStore, file_state, over_files, HoldsAlone, IsCopied, HasCleanDisk, Publisher, Keeps, Looks, Meaning, Tables, Standing, ShowsTables, IsReached, DeskOf, FilesHoldOffice, IsHalfClosed, OpensHeld, LeavesNoOther, LeavesShown, sql_meaning, remembering, remembering_standing, Step, office_left, StandsAs, office_answers, StepsAreKept, StopsBy, ProgramFault, IsOfStore, Hosting, HadOfficeIfUsed, OpensEmpty, AreOfOpened, DayIn, DaysFollow, EndsPrinting, EndsServing, FilesGoOn, HalfClosesFiles, HalfPrintsFiles, HalfServesFilesAt, HaveOffice, KeysFollow, LedOn, MayBeFound, PrintsFiles, ServesFiles, ServesFilesAt, ServesOpened, StandsIn, StopsIn, TellsFirst, WasServed, WasServedRemembering, sql_standing, under_settings, IsPrintout, AreOfServingAt, ServesAt, Printout}
 use Rattle.sqlite.specs.Held.{Held as Connected}
 use Rattle.office_values.specs.declared.settings.Settings.{Settings}
 use Rattle.office_http.specs.Answering.{Held}

@@ -1,5 +1,5 @@
 -- One more connection.
-use Rattle.procure_programs.proofs.Names.{◌≡◌, inl, inr, ℕ, ◌+◌, ◌≤◌, Bool, true, false, List, [], ◌∷◌, ◌++◌, length, Option, Result, refl, sym, subst, ◌∙◌, arith, length-append, SocketAddrV4, Keeps, Meaning, Standing, Tables, DeskOf, Answers, IsOneAtMost, Step, office_left, IsWholeAfter, LeftAfter, StandsAs, is_accepted, meant_in, office_answers, StepsAreKept, LeftBySteps, StopsBy, ProgramFault, Hosting, TakesTurns, WasServed, WasServedAt, ServesAt}
+use Rattle.procure_programs.proofs.Names.{◌≡◌, inl, inr, ℕ, ◌+◌, ◌≤◌, Bool, true, false, List, [], ◌∷◌, ◌++◌, length, Option, Result, refl, sym, subst, ◌∙◌, arith, SocketAddrV4, Keeps, Meaning, Standing, Tables, DeskOf, Answers, IsOneAtMost, Step, office_left, IsWholeAfter, LeftAfter, StandsAs, is_accepted, meant_in, office_answers, StepsAreKept, LeftBySteps, StopsBy, ProgramFault, Hosting, TakesTurns, WasServed, WasServedAt, ServesAt}
 use Rattle.office_values.specs.declared.settings.Settings.{Settings}
 use Rattle.office_http.specs.Answering.{Held}
 

@@ -2,7 +2,7 @@
 use Rattle.std.specs.Prelude.{◌≡◌, ◌⊎◌, ℕ, Bool, true, false, nat_lt, if◌then◌else◌, List, [], ◌∷◌, length, map, codes, Result, Ok, Err}
 use Rattle.std.specs.Io.KnownBytes.{Appends}
 use Rattle.sha2.specs.Sha256.{sha256}
-use Rattle.office_values.specs.declared.refusal.BadPart.TheVariants.{Body, Row}
+use Rattle.office_values.specs.declared.refusal.BadPart.TheVariants.{Row}
 use Rattle.office_values.specs.declared.refusal.Refusal.{Refusal}
 use Rattle.office_values.specs.declared.refusal.Refusal.TheVariants.{BadBody, TooLong, Unavailable}
 use Rattle.office_commands.specs.declared.budget.BudgetKind.{BudgetKind}

@@ -1,24 +1,6 @@
 -- An import with two lists of lines that agree on the lines that its rows name.
-use Rattle.std.specs.Prelude.{◌≡◌, Bool, true, false, cond, ◌||◌, ℕ, List, [], ◌∷◌, ◌++◌, map, length, Option, Some, None, option_map, option_and_then}
-use Rattle.std.proofs.Common.{refl, sym, ap, ◌∙◌}
-use Rattle.std.specs.Ordering.{eq_by_cmp}
-use Rattle.std.specs.Cmp.Lexicographic.{nat_list_cmp_total}
-use Rattle.std.specs.declared.cmp.Ordering.{Ordering}
-use Rattle.std.specs.declared.cmp.Ordering.TheVariants.{Less, Equal, Greater}
-use Rattle.office_values.specs.Ids.{id_cmp}
-use Rattle.office_commands.specs.declared.budget.BudgetRow.{BudgetRow}
-use Rattle.office_base.specs.Rows.{by_order, row_at}
-use Rattle.office_base.specs.Tables.{Tables, find_line, line_at}
-use Rattle.office_base.specs.Standings.{find_standing, columns_at, columns_of_row, standing_key, standing_of, standings}
-use Rattle.tender_core.specs.Rules.Import.{columns_after, after_row, after_rows, any_while_walking, imported_line_put, appropriation_of, free_of, cuts_nothing, cuts_too_much, passes_limit, cuts_below_zero, import_lacks, import_tests, import_puts}
-use Rattle.tender_core.specs.Agreeing.{AgreeOnRows, ImportsAgree, import_on}
-use Rattle.tender_core.specs.declared.import.ImportRows.{ImportRows}
-use Rattle.office_base.specs.declared.records.LineRow.{LineRow}
-use Rattle.office_base.specs.declared.puts.Put.{Put}
+use Rattle.tender_core.proofs.Names.{◌≡◌, Bool, true, false, cond, ◌||◌, ℕ, List, [], ◌∷◌, ◌++◌, map, length, Option, Some, None, option_map, option_and_then, refl, sym, ap, ◌∙◌, eq_by_cmp, nat_list_cmp_total, Ordering, Less, Equal, Greater, id_cmp, BudgetRow, by_order, row_at, Tables, find_line, line_at, find_standing, columns_at, columns_of_row, standing_key, standing_of, standings, columns_after, after_row, after_rows, any_while_walking, imported_line_put, appropriation_of, free_of, cuts_nothing, cuts_too_much, passes_limit, cuts_below_zero, import_lacks, import_tests, import_puts, AgreeOnRows, ImportsAgree, import_on, ImportRows, LineRow, Put, Columns, Standing, row_at-row_put}
 use Rattle.office_base.specs.declared.puts.Put.TheVariants as puts
-use Rattle.office_base.specs.declared.standing.Columns.{Columns}
-use Rattle.office_base.specs.declared.standing.Standing.{Standing}
-use Rattle.office_base.proofs.RowLaws.{row_at-row_put}
 
 columns_by : (b : Bool) (s : Standing) (found : Option Standing)
     → option_and_then (λ (x : Standing). x.columns) (cond b (Some s) found) ≡ cond b s.columns (option_and_then (λ (x : Standing). x.columns) found)

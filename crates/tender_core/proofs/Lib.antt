@@ -1,3 +1,4 @@
+pub mod Names
 pub mod ImportsAgree
 mod LinesAgree
 mod ReadingsPut

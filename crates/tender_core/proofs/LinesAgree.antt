@@ -1,21 +1,8 @@
 -- Publications and cancellations with two lists of lines that agree on the lines of their lots.
-use Rattle.std.specs.Prelude.{◌≡◌, ℕ, ◌+◌, ◌-◌, Bool, not, ◌&&◌, ◌||◌, nat_lt, List, [], ◌∷◌, map, filter, is_some, Option}
-use Rattle.std.specs.List.{list_any}
-use Rattle.std.proofs.Common.{refl, ap, ◌∙◌}
-use Rattle.office_commands.specs.declared.lot.NewLot.{NewLot}
-use Rattle.office_commands.specs.declared.notice.NewNotice.{NewNotice}
-use Rattle.office_base.specs.Joined.{free_in}
-use Rattle.office_base.specs.declared.records.LineRow.{LineRow}
-use Rattle.office_base.specs.declared.records.LotRow.{LotRow}
-use Rattle.office_base.specs.declared.puts.Put.{Put}
+use Rattle.tender_core.proofs.Names.{◌≡◌, ℕ, ◌+◌, ◌-◌, not, ◌&&◌, ◌||◌, nat_lt, List, [], ◌∷◌, map, filter, is_some, Option, list_any, refl, ap, ◌∙◌, NewLot, NewNotice, free_in, LineRow, LotRow, Put, wanted, is_on_no_line, is_short, publish_tests, publish_puts, no_line, is_open_lot, cancel_lacks, cancel_puts, AgreeOnNewLots, AgreeOnLots, PublishesAgree, CancelsAgree, publish_on, cancel_on, CancelRows, PublishRows}
 use Rattle.office_base.specs.declared.puts.Put.TheVariants as puts
-use Rattle.tender_core.specs.Rules.Publish.{wanted, is_on_no_line, is_short, publish_tests, publish_puts, no_line}
 use Rattle.tender_core.specs.Rules.Publish as published
 use Rattle.tender_core.specs.Rules.Cancel as cancelled
-use Rattle.tender_core.specs.Rules.Cancel.{is_open_lot, cancel_lacks, cancel_puts}
-use Rattle.tender_core.specs.Agreeing.{AgreeOnNewLots, AgreeOnLots, PublishesAgree, CancelsAgree, publish_on, cancel_on}
-use Rattle.tender_core.specs.declared.cancel.CancelRows.{CancelRows}
-use Rattle.tender_core.specs.declared.publish.PublishRows.{PublishRows}
 
 no_line-agree : (m n : List LineRow) (lots : List NewLot) → AgreeOnNewLots m n lots → list_any (is_on_no_line m) lots ≡ list_any (is_on_no_line n) lots
 no_line-agree m n [] h = refl

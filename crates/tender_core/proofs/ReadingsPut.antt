@@ -1,12 +1,6 @@
 -- Reading the tenders first and then making the changes of an opening gives the changes of its rule.
-use Rattle.std.proofs.Common.{◌≡◌, refl, ap, ◌∷◌, [], ◌++◌, List, ℕ, map, Option, Some, None}
-use Rattle.office_commands.specs.declared.item.Item.{Item}
-use Rattle.office_base.specs.declared.reading.Reading.{Reading}
+use Rattle.tender_core.proofs.Names.{◌≡◌, refl, ap, ◌∷◌, [], ◌++◌, List, ℕ, map, Option, Some, None, Item, Reading, clock_put, SealedTender, opened_put, opened_notice, open_puts, opened_with, with_reading, read_put, ReadingsArePut, OpenRows, NoticeRow}
 use Rattle.office_base.specs.declared.puts.Put.TheVariants as puts
-use Rattle.office_base.specs.Transitions.{clock_put}
-use Rattle.tender_core.specs.Rules.Open.{SealedTender, opened_put, opened_notice, open_puts, opened_with, with_reading, read_put, ReadingsArePut}
-use Rattle.tender_core.specs.declared.opening.OpenRows.{OpenRows}
-use Rattle.office_base.specs.declared.records.NoticeRow.{NoticeRow}
 
 tenders_put : (read : List ℕ → List Item → Reading) (tenders : List SealedTender)
     → map (opened_put read) tenders ≡ map read_put (map (with_reading read) tenders)

@@ -1,19 +1,5 @@
 -- Rows of a budget file, taken in order.
-use Rattle.std.specs.Prelude.{◌≡◌, ℕ, ◌+◌, ◌-◌, ◌*◌, ◌<◌, ◌≤◌, ◌^◌, Bool, true, false, cond, ◌||◌, List, [], ◌∷◌, Option, Some, None, IsSome, is_some, All}
-use Rattle.std.proofs.Common.{refl, sym, ap, ◌∙◌, arith}
-use Rattle.std.specs.List.{AllByRecursion}
-use Rattle.std.specs.Cmp.Lexicographic.{nat_list_cmp_total}
-use Rattle.std.specs.Ordering.{eq_by_cmp}
-use Rattle.office_values.specs.Ids.{id_cmp}
-use Rattle.std.proofs.lemmas.List.Elements.{All-weaker}
-use Rattle.office_commands.specs.declared.budget.BudgetRow.{BudgetRow}
-use Rattle.office_base.specs.Standings.{find_standing, columns_at, standing_key}
-use Rattle.tender_core.specs.Rules.Import.{after_row, after_rows, any_while_walking, columns_after, is_cut}
-use Rattle.office_base.specs.declared.standing.Columns.{Columns}
-use Rattle.office_base.specs.declared.standing.Standing.{Standing}
-use Rattle.office_base.specs.RowLaws.{RowsAreKept}
-use Rattle.office_base.proofs.RowLaws.{all-put, all-found}
-use Rattle.tender_core.specs.Walks.{AreNamed, IsAtMost, AreAtMost}
+use Rattle.tender_core.proofs.Names.{◌≡◌, ℕ, ◌+◌, ◌-◌, ◌*◌, ◌<◌, ◌≤◌, ◌^◌, Bool, true, false, cond, ◌||◌, List, [], ◌∷◌, Option, Some, None, IsSome, is_some, refl, sym, ap, ◌∙◌, arith, nat_list_cmp_total, eq_by_cmp, id_cmp, All-weaker, BudgetRow, find_standing, columns_at, standing_key, after_row, after_rows, any_while_walking, columns_after, is_cut, Columns, Standing, RowsAreKept, all-put, all-found, AreNamed, IsAtMost, AreAtMost}
 
 -- a line that is found is still found after a put of another line or its own
 there_by : (b : Bool) (s : Standing) (found : Option Standing) → is_some found ≡ true → is_some (cond b (Some s) found) ≡ true

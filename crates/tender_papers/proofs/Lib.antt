@@ -1,3 +1,4 @@
+pub mod Names
 pub mod RecordSteps
 pub mod ReaderSteps
 pub mod FourSteps

@@ -1,13 +1,6 @@
 -- The effect of one read on the records that a reader hasn't read yet.
-use Rattle.std.proofs.Common.{◌≡◌, ℕ, ◌+◌, List, [], ◌∷◌, length, Some, refl, sym, ap, ◌∙◌, Bor, true, false, inl}
-use Rattle.std.specs.Prelude.{Bool, IsTrue}
-use Rattle.std.specs.Bool.{MatchBool}
-use Rattle.csv.specs.declared.error.ErrorKind.{ErrorKind}
+use Rattle.tender_papers.proofs.Names.{◌≡◌, ℕ, ◌+◌, List, [], ◌∷◌, length, Some, refl, sym, ap, ◌∙◌, Bor, true, false, inl, Bool, IsTrue, MatchBool, ErrorKind, ExplainsRead, Reached, ReadRecord, default_config, is_flexible, reader_state, records_from, source_of, took_first, Reader, rows-end, rows-more, IsOfSource, IsReading, records_left}
 use Rattle.csv.specs.declared.error.ErrorKind.TheVariants as kind
-use Rattle.csv.specs.Reading.{ExplainsRead, Reached, ReadRecord, default_config, is_flexible, reader_state, records_from, source_of, took_first}
-use Rattle.csv.specs.declared.reader.Reader.{Reader}
-use Rattle.csv.proofs.ReadFacts.{rows-end, rows-more}
-use Rattle.tender_papers.specs.Inside.Reading.{IsOfSource, IsReading, records_left}
 use Rattle.tender_papers.proofs.RecordSteps.{record_shortens, records_more, records_end}
 
 -- the unread records follow from the unread bytes

@@ -1,12 +1,5 @@
 -- The item records of a tender, as a loop collects them, and their sums.
-use Rattle.std.proofs.Common.{◌≡◌, ℕ, List, [], ◌∷◌, ◌++◌, Option, Some, None, refl, sym, ap, ◌∙◌, append_assoc}
-use Rattle.std.proofs.lemmas.List.{append-nil}
-use Rattle.std.specs.Prelude.{Bool, true, false, ◌&&◌, cond, option_map, option_and_then, is_some}
-use Rattle.std.specs.List.{filter_map, list_all, cons_option}
-use Rattle.tender_papers.specs.Files.{but_last, last_of}
-use Rattle.tender_papers.specs.Tender.{Paper, paper_below_head, is_item, item_record_of, item_of_four, stated_of, stated_of_four}
-use Rattle.tender_papers.specs.Inside.TenderParts.{tender_ended_by}
-use Rattle.tender_papers.specs.declared.tender.ItemRecord.{ItemRecord}
+use Rattle.tender_papers.proofs.Names.{◌≡◌, ℕ, List, [], ◌∷◌, ◌++◌, Option, Some, None, refl, sym, ap, ◌∙◌, append_assoc, append-nil, Bool, true, false, ◌&&◌, cond, option_map, option_and_then, is_some, filter_map, list_all, cons_option, but_last, last_of, Paper, paper_below_head, is_item, item_record_of, item_of_four, stated_of, stated_of_four, tender_ended_by, ItemRecord}
 
 -- item records that were read before, and then the content of the rest
 abbrev pub body_before : List ItemRecord → Option Paper → Option Paper

@@ -1,11 +1,5 @@
 -- Laws of dropped rows: the keys stay in order, and a look-up no longer finds the row.
-use Rattle.std.specs.Prelude.{◌≡◌, Bool, true, false, cond, List, [], ◌∷◌, Option, Some, None}
-use Rattle.std.proofs.Common.{refl, sym, ap, ◌∙◌}
-use Rattle.std.specs.Cmp.{IsTotalOrder}
-use Rattle.std.specs.Ordering.{is_eq, eq_by_cmp}
-use Rattle.std.specs.declared.cmp.Ordering.{Ordering}
-use Rattle.std.specs.declared.cmp.Ordering.TheVariants.{Less, Equal, Greater}
-use Rattle.office_base.specs.Rows.{by_order, row_at, row_drop, StartsAbove, IsInOrder}
+use Rattle.office_base.proofs.Names.{◌≡◌, true, false, cond, List, [], ◌∷◌, Option, Some, None, refl, sym, ap, ◌∙◌, IsTotalOrder, is_eq, eq_by_cmp, Ordering, Less, Equal, Greater, by_order, row_at, row_drop, StartsAbove, IsInOrder}
 use Rattle.office_base.proofs.ExactKeys.{equal_keys}
 use Rattle.office_base.proofs.RowLaws.Keyed.{IsKeyed}
 use Rattle.office_base.proofs.RowLaws.Starts.{above, tied, none_below}

@@ -1,11 +1,5 @@
 -- Laws of rows that pass a test: they are in order, and a look-up finds those that pass.
-use Rattle.std.specs.Prelude.{◌≡◌, Bool, true, false, cond, ◌&&◌, List, [], ◌∷◌, filter, Option, Some, None}
-use Rattle.std.proofs.Common.{refl, sym, ap, ◌∙◌}
-use Rattle.std.specs.List.{AllByRecursion}
-use Rattle.std.specs.Cmp.{IsTotalOrder}
-use Rattle.std.specs.declared.cmp.Ordering.{Ordering}
-use Rattle.std.specs.declared.cmp.Ordering.TheVariants.{Less, Equal, Greater}
-use Rattle.office_base.specs.Rows.{by_order, row_at, StartsAbove, IsInOrder}
+use Rattle.office_base.proofs.Names.{◌≡◌, Bool, true, false, cond, ◌&&◌, List, [], ◌∷◌, filter, Option, Some, None, refl, sym, ap, ◌∙◌, AllByRecursion, IsTotalOrder, Ordering, Less, Equal, Greater, by_order, row_at, StartsAbove, IsInOrder}
 use Rattle.office_base.proofs.RowLaws.Keyed.{IsKeyed}
 use Rattle.office_base.proofs.RowLaws.Starts.{above, tied, all_above, none_below, start_of}
 

@@ -1,12 +1,5 @@
 -- Keys of tables: their order is total, and only equal keys compare as equal.
-use Rattle.std.specs.Prelude.{◌≡◌, true, List, [], ◌∷◌, Option, Some, None}
-use Rattle.std.proofs.Common.{refl, sym, ap, ◌∙◌}
-use Rattle.std.specs.Cmp.{IsTotalOrder}
-use Rattle.std.specs.FinMap.{IsAntisymmetric}
-use Rattle.std.specs.Ordering.{is_eq, eq_by_cmp}
-use Rattle.std.specs.declared.cmp.Ordering.{Ordering}
-use Rattle.std.specs.declared.cmp.Ordering.TheVariants.{Less, Equal, Greater}
-use Rattle.office_base.specs.Rows.{by_order, row_at}
+use Rattle.office_base.proofs.Names.{◌≡◌, true, List, [], ◌∷◌, Some, None, refl, sym, ap, ◌∙◌, IsTotalOrder, IsAntisymmetric, is_eq, eq_by_cmp, Ordering, Less, Equal, Greater, by_order, row_at}
 use Rattle.office_base.proofs.Orders.{same_key}
 
 -- the order of a table's keys is total, and only equal keys compare as equal

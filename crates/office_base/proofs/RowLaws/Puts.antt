@@ -1,12 +1,5 @@
 -- Laws of a put: the rows that look-ups find after it, the properties of all rows, and the order of the keys.
-use Rattle.std.specs.Prelude.{◌≡◌, Bool, true, false, cond, List, [], ◌∷◌, Option, Some, None, is_some, IsSome}
-use Rattle.std.proofs.Common.{refl, ap, ◌∙◌}
-use Rattle.std.specs.List.{AllByRecursion}
-use Rattle.std.specs.Cmp.{IsTotalOrder}
-use Rattle.std.specs.Ordering.{is_eq, eq_by_cmp, ordering_reverse}
-use Rattle.std.specs.declared.cmp.Ordering.{Ordering}
-use Rattle.std.specs.declared.cmp.Ordering.TheVariants.{Less, Equal, Greater}
-use Rattle.office_base.specs.Rows.{by_order, row_at, row_put, StartsAbove, IsInOrder}
+use Rattle.office_base.proofs.Names.{◌≡◌, Bool, true, false, cond, List, [], ◌∷◌, Option, Some, None, is_some, IsSome, refl, ap, ◌∙◌, AllByRecursion, IsTotalOrder, is_eq, eq_by_cmp, ordering_reverse, Ordering, Less, Equal, Greater, by_order, row_at, row_put, StartsAbove, IsInOrder}
 use Rattle.office_base.proofs.Orders.{same_key, alike_right}
 use Rattle.office_base.proofs.RowLaws.Starts.{tied}
 

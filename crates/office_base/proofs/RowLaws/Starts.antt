@@ -1,11 +1,5 @@
 -- Rows in the order of their keys: if the first one is above a key, all are.
-use Rattle.std.specs.Prelude.{◌≡◌, List, [], ◌∷◌, Some, None}
-use Rattle.std.proofs.Common.{refl, ap, ◌∙◌}
-use Rattle.std.specs.List.{AllByRecursion}
-use Rattle.std.specs.Cmp.{IsTotalOrder}
-use Rattle.std.specs.declared.cmp.Ordering.{Ordering}
-use Rattle.std.specs.declared.cmp.Ordering.TheVariants.{Less, Equal}
-use Rattle.office_base.specs.Rows.{by_order, row_at, StartsAbove, IsInOrder}
+use Rattle.office_base.proofs.Names.{◌≡◌, List, [], ◌∷◌, Some, None, refl, ap, ◌∙◌, AllByRecursion, IsTotalOrder, Ordering, Less, Equal, by_order, row_at, StartsAbove, IsInOrder}
 
 -- if all rows are above a key, the first one is
 pub start_of : {K X : Type 0} (R : K → K → Ordering) (key : X → K) (k : K) (xs : List X) → AllByRecursion (λ x. R k (key x) ≡ Less) xs → StartsAbove R key k xs

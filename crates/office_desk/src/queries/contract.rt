@@ -6,12 +6,13 @@ ghost use Rattle.office_commands.specs.declared.queries.Query.TheVariants.{Contr
 ghost use Rattle.office_values.specs.Money.{total_limit};
 ghost use Rattle.office_values.specs.declared.refusal.Refusal.TheVariants.{Unavailable};
 ghost use Rattle.office_base.specs.Joined.{is_overdrawn, outstanding, paid_under};
+ghost use Rattle.office_base.specs.Rows.{holds_of};
 ghost use Rattle.office_base.specs.Shelves.{Looks};
 ghost use Rattle.office_base.specs.Tables.{Tables, contract_at, entries_of_contract};
 ghost use Rattle.office_machine.specs.Replies.{ContractSeen};
 ghost use Rattle.office_plans.specs.Replies.{reply_text};
 ghost use Rattle.office_plans.specs.RowMembers.{entry_entries};
-ghost use Rattle.office_desk.specs.Steps.{IsNotOverdrawn, IsShown, TellsQuery, read_text};
+ghost use Rattle.office_desk.specs.Steps.{IsShown, TellsQuery, read_text};
 
 use crate::queries::security::is_by_clerk_or;
 use award_core::entries::{is_overdrawn, outstanding, paid};
@@ -131,7 +132,7 @@ pub(crate) fn look<H: Lookups>(
     requires { may_look caller.now kinds.Contract ≡ true }
     ensures looks { Looks H.meaning shelf.old shelf.new (λ s. IsShown caller.now (Contract contract) s (read_text result)) }
     ensures tells { TellsQuery H.meaning shelf.old shelf.new caller.now (Contract contract) result }
-    ensures shown { H.meaning.honest shelf.new → (s : Tables) → H.meaning.holds shelf.old s → OnOk result (IsNotOverdrawn (contract_at contract s) (entries_of_contract contract s)) }
+    ensures shown { H.meaning.honest shelf.new → (s : Tables) → H.meaning.holds shelf.old s → OnOk result (holds_of (is_overdrawn (entries_of_contract contract s)) (contract_at contract s) ≡ false) }
 {
     laws::looks_follow::<H>();
     let Some(row) = shelf.get_contract(contract)? else {

@@ -37,8 +37,8 @@ abbrev pub AnswersMeant : {S : Type 0} → Meaning S → Settings → S → S �
 AnswersMeant M settings old new moment m text =
     M.honest new → (s : Tables) → M.holds old s → IsReached settings.publisher s → CanBeMeant s (m s) → Answered M settings old new s moment (m s) text
 
--- If the decision needs no memory, a refused request gets its refusal, or the store has counted another fault.
+-- If the refusal is found without memory, a refused request gets it, or the store has counted another fault.
 abbrev pub IsCertain : {S : Type 0} → Meaning S → S → S → ℕ → (Tables → Meant) → List ℕ → Type 0
 IsCertain M old new moment m text =
-    M.honest new → (s : Tables) → M.holds old s → takes_none (m s) ≡ true → (why : Refusal × Option Allow) → refusal_meant s moment (m s) ≡ Some why
+    M.honest new → (s : Tables) → M.holds old s → (why : Refusal × Option Allow) → refusal_meant s moment (m s) ≡ Some why → takes_none (m s) why.0 ≡ true
     → (text ≡ response_of (Refused why.0 why.1)) ⊎ HasRisen (M.fault_count old) (M.fault_count new)

@@ -27,10 +27,10 @@ start = record {
 kept_beside : (merges : List CompiledRow) (xs : List Given) (s : Tables) → AccountsStand xs s → AccountsStand xs (with_merges merges s)
 kept_beside merges xs s k = record {
   pots = λ q. let p = k.pots q in record { appropriation_is = p.appropriation_is; free_is = p.free_is; reserved_is = p.reserved_is; gains_are = p.gains_are; losses_are = p.losses_are; paid_is = p.paid_is; none_spent = p.none_spent };
-  lots = λ key lot found. let l = k.lots key lot found in record { of_notice = l.of_notice; on_line = l.on_line; held = l.held };
+  lots = k.lots;
   awards = λ number award found. let a = k.awards number award found in record { drawn = a.drawn; of_lot = a.of_lot };
   one_active = k.one_active;
-  contracts = λ number c found. let r = k.contracts number c found in record { of_lot = r.of_lot; of_award = r.of_award; running = r.running; within = r.within; came_in = r.came_in; went_out = r.went_out };
+  contracts = λ number c found. let r = k.contracts number c found in record { of_award = r.of_award; running = r.running; within = r.within; came_in = r.came_in; went_out = r.went_out };
   no_contract = λ number none. let n = k.no_contract number none in record { came_in = n.came_in; went_out = n.went_out; raised = n.raised; lessened = n.lessened; paid_out = n.paid_out };
 }
 
@@ -42,7 +42,7 @@ keeps readings xs s moment caller command kept order have own allowed = by (lawf
   where
     by : KeepsBooks command → AccountsStand (given s moment caller command ∷ xs) (after_puts (puts_for readings s (max moment s.clock.moment) caller command) s)
     by (Idle apart idle) = idle_keeps (given s moment caller command) (touches command) apart _ ((lawful command).tail readings s moment caller have allowed) xs (idle s moment caller xs) kept
-    by (Moving moves) = moves readings xs s moment caller kept order own allowed
+    by (Moving moves) = moves readings xs s moment caller kept order have own allowed
 
 pub all_kept : (means : Means) (xs : List Given) (s : Tables) → Reaches means xs s → AccountsStand xs s
 all_kept means = along means AccountsStand start (λ merges in_order xs s of_notices. kept_beside merges xs s)

@@ -7,6 +7,7 @@ use Rattle.office_machine.proofs.Accounts.Balance.{add_up, balanced}
 use Rattle.office_machine.proofs.Commands.Import.Accounts.{import_fits}
 use Rattle.office_machine.proofs.Accounts.Joins.{is_of}
 use Rattle.office_machine.proofs.Accounts.Kept.{AccountsStand, reserved_by, over_contracts}
+use Rattle.office_machine.proofs.Parents.ParentsThere.{parents_there}
 use Rattle.office_machine.proofs.Rows.Keyed.{weight_le}
 use Rattle.office_machine.proofs.Passed.{witness, allowed_by}
 use Rattle.office_machine.proofs.Rows.SortedTables.{sorted}
@@ -105,7 +106,7 @@ sums_fit means xs t reached = record {
       let own = same_itself lot.line in
       omega (arith, weight_le lot_cmp lot_key (reserved_by lot.line) t.lots key lot is, ap (λ b. cond b lot.reserved 0) own, all_fit means xs t reached lot.line, add_up xs t kept order lot.line);
   contracts = λ n c is.
-      let lot = witness (lot_at (c.notice, c.lot) t) (kept.contracts n c is).of_lot in
+      let lot = witness (lot_at (c.notice, c.lot) t) ((parents_there means xs t reached).contracts n c is).lot in
       let sum = add_up xs t kept order lot.0.line in
       let fit = all_fit means xs t reached lot.0.line in
       record {

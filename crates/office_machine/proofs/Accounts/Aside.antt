@@ -1,9 +1,8 @@
 -- Commands that move nothing, and puts that touch none of the books: lines, lots, awards, contracts and entries.
-use Rattle.office_machine.proofs.Names.{◌≡◌, ℕ, ◌-◌, ◌≤◌, List, [], ◌∷◌, ◌++◌, map, filter, Option, Some, None, refl, sym, ◌∙◌, ap, subst, arith, IsSome, AllByRecursion, SecurityRow, Tables, find_notice, after_put, after_puts, Put, security_returned, is_held_security, securities_returned, put_if, ReleaseRow, Given, Means, publication_puts, effect, next, publication, moves, moves_by, reserved_for, brought, brought_by, taken, taken_by}
+use Rattle.office_machine.proofs.Names.{◌≡◌, ℕ, ◌-◌, ◌≤◌, List, [], ◌∷◌, ◌++◌, map, filter, Option, Some, None, refl, sym, ◌∙◌, ap, subst, arith, AllByRecursion, SecurityRow, Tables, after_put, after_puts, Put, security_returned, is_held_security, securities_returned, put_if, ReleaseRow, Given, Means, publication_puts, effect, next, publication, moves, moves_by, reserved_for, brought, brought_by, taken, taken_by}
 use Rattle.office_base.specs.declared.puts.Put.TheVariants as puts
 use Rattle.office_machine.proofs.Accounts.Kept.{AccountsStand, PotsAre}
 use Rattle.office_machine.proofs.Rows.Keyed as keyed
-use Rattle.office_machine.proofs.Rows.Keyed.{still_there}
 
 -- the put is of no book, and a clock has at least n numbers of awards
 abbrev pub IsAside : ℕ → Put → Type 0
@@ -18,29 +17,28 @@ IsAside n _ = Unit {0}
 abbrev pub AreAside : ℕ → List Put → Type 0
 AreAside n ps = AllByRecursion (IsAside n) ps
 
--- the books of the two offices are equal: lines, lots, awards, contracts and entries; every notice remains
+-- the books of the two offices are equal: lines, lots, awards, contracts and entries
 pub record SameBooks (n : ℕ) (s s' : Tables) : Type 0 where
   pub lines : s.lines ≡ s'.lines
   pub lots : s.lots ≡ s'.lots
   pub awards : s.awards ≡ s'.awards
   pub contracts : s.contracts ≡ s'.contracts
   pub entries : s.entries ≡ s'.entries
-  pub notices : (k : List ℕ) → IsSome (find_notice s.notices k) → IsSome (find_notice s'.notices k)
   pub numbers : n ≤ s.clock.awards → n ≤ s'.clock.awards
 
 one_aside : (n : ℕ) (p : Put) (s : Tables) → IsAside n p → SameBooks n s (after_put p s)
 one_aside n (puts.Line r) s a = absurd a
-one_aside n (puts.Notice r) s a = record { lines = refl; lots = refl; awards = refl; contracts = refl; entries = refl; notices = λ k h. still_there keyed.notices s.notices r k h; numbers = λ h. h }
+one_aside n (puts.Notice r) s a = record { lines = refl; lots = refl; awards = refl; contracts = refl; entries = refl; numbers = λ h. h }
 one_aside n (puts.Lot r) s a = absurd a
 one_aside n (puts.Award r) s a = absurd a
 one_aside n (puts.Contract r) s a = absurd a
 one_aside n (puts.Entry r) s a = absurd a
-one_aside n (puts.Clock r) s a = record { lines = refl; lots = refl; awards = refl; contracts = refl; entries = refl; notices = λ k h. h; numbers = λ h. a }
-one_aside n _ s a = record { lines = refl; lots = refl; awards = refl; contracts = refl; entries = refl; notices = λ k h. h; numbers = λ h. h }
+one_aside n (puts.Clock r) s a = record { lines = refl; lots = refl; awards = refl; contracts = refl; entries = refl; numbers = λ h. a }
+one_aside n _ s a = record { lines = refl; lots = refl; awards = refl; contracts = refl; entries = refl; numbers = λ h. h }
 
 -- puts aside leave the books as they are
 pub all_aside : (n : ℕ) (ps : List Put) (s : Tables) → AreAside n ps → SameBooks n s (after_puts ps s)
-all_aside n [] s a = record { lines = refl; lots = refl; awards = refl; contracts = refl; entries = refl; notices = λ k h. h; numbers = λ h. h }
+all_aside n [] s a = record { lines = refl; lots = refl; awards = refl; contracts = refl; entries = refl; numbers = λ h. h }
 all_aside n (p ∷ ps) s a =
     let one = one_aside n p s a.0 in
     let more = all_aside n ps (after_put p s) a.1 in
@@ -50,7 +48,6 @@ all_aside n (p ∷ ps) s a =
       awards = one.awards ∙ more.awards;
       contracts = one.contracts ∙ more.contracts;
       entries = one.entries ∙ more.entries;
-      notices = λ k h. more.notices k (one.notices k h);
       numbers = λ h. more.numbers (one.numbers h);
     }
 
@@ -61,10 +58,10 @@ kept_alike xs s s' same kept = subst (AccountsStand xs) path mixed
     mixed : AccountsStand xs (record s' { lines = s.lines; lots = s.lots; awards = s.awards; contracts = s.contracts; entries = s.entries })
     mixed = record {
       pots = λ q. let p = kept.pots q in record { appropriation_is = p.appropriation_is; free_is = p.free_is; reserved_is = p.reserved_is; gains_are = p.gains_are; losses_are = p.losses_are; paid_is = p.paid_is; none_spent = p.none_spent };
-      lots = λ k l h. let old = kept.lots k l h in record { of_notice = same.notices k.0 old.of_notice; on_line = old.on_line; held = old.held };
+      lots = kept.lots;
       awards = λ a w h. let old = kept.awards a w h in record { drawn = let more = same.numbers (omega arith) in omega (arith, old.drawn, more); of_lot = old.of_lot };
       one_active = kept.one_active;
-      contracts = λ c r h. let old = kept.contracts c r h in record { of_lot = old.of_lot; of_award = old.of_award; running = old.running; within = old.within; came_in = old.came_in; went_out = old.went_out };
+      contracts = λ c r h. let old = kept.contracts c r h in record { of_award = old.of_award; running = old.running; within = old.within; came_in = old.came_in; went_out = old.went_out };
       no_contract = λ c h. let old = kept.no_contract c h in record { came_in = old.came_in; went_out = old.went_out; raised = old.raised; lessened = old.lessened; paid_out = old.paid_out };
     }
 
@@ -114,9 +111,9 @@ pub record IsIdle (x : Given) (xs : List Given) : Type 0 where
 pub kept_idle : (x : Given) (xs : List Given) (s : Tables) → IsIdle x xs → AccountsStand xs s → AccountsStand (x ∷ xs) s
 kept_idle x xs s idle kept = record {
   pots = λ q. subst (λ ms. PotsAre ms s q) (sym (ap (λ ms. ms ++ moves xs) idle.moves_none)) (kept.pots q);
-  lots = λ k l h. let old = kept.lots k l h in record { of_notice = old.of_notice; on_line = old.on_line; held = λ e. idle.held k ∙ old.held e };
+  lots = λ k l h e. idle.held k ∙ kept.lots k l h e;
   awards = kept.awards;
   one_active = kept.one_active;
-  contracts = λ c r h. let old = kept.contracts c r h in record { of_lot = old.of_lot; of_award = old.of_award; running = old.running; within = old.within; came_in = omega (arith, old.came_in, idle.none_brought c); went_out = omega (arith, old.went_out, idle.none_taken c) };
+  contracts = λ c r h. let old = kept.contracts c r h in record { of_award = old.of_award; running = old.running; within = old.within; came_in = omega (arith, old.came_in, idle.none_brought c); went_out = omega (arith, old.went_out, idle.none_taken c) };
   no_contract = λ c h. let old = kept.no_contract c h in record { came_in = omega (arith, old.came_in, idle.none_brought c); went_out = omega (arith, old.went_out, idle.none_taken c); raised = old.raised; lessened = old.lessened; paid_out = old.paid_out };
 }

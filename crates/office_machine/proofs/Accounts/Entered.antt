@@ -82,7 +82,6 @@ module _ (x : Given) (xs : List Given) (s : Tables) (kept : AccountsStand xs s) 
 
   pub contracts_are : (s' : Tables) (n : ℕ) (y : ContractRow) → find_contract s.contracts n ≡ Some y → ContractIs (x ∷ xs) (after s') n y
   contracts_are s' n y h = record {
-    of_lot = old.of_lot;
     of_award = old.of_award;
     running = old.running;
     within = of (same_number c y.contract) refl;

@@ -3,7 +3,6 @@ use Rattle.office_machine.proofs.Names.{◌≡◌, ℕ, ◌≤◌, Bool, false, 
 use Rattle.office_machine.proofs.Accounts.Aside.{IsIdle, SameBooks, kept_alike, kept_idle}
 use Rattle.office_machine.proofs.Commands.Footprint.{TableName, Lines, Lots, Awards, Contracts, Entries, is_in, leaves}
 use Rattle.office_machine.proofs.Accounts.Kept.{AccountsStand}
-use Rattle.office_machine.proofs.Parents.ParentsPut.{grows-puts}
 use Rattle.office_machine.proofs.Passed.{neither}
 use Rattle.office_machine.proofs.Commands.Tail.{HasTail, is_touched}
 
@@ -26,7 +25,6 @@ module _ (x : Given) (names : List TableName) (apart : touches_books names ≡ f
         awards = sym (left.awards awards.0);
         contracts = sym (left.contracts contracts.0);
         entries = sym (left.entries contracts.1);
-        notices = (grows-puts ps x.before).notices;
         numbers = λ _. subst (λ (c : ClockRow). x.before.clock.awards ≤ c.awards) (sym (tail.writes.clock_is x.before)) tail.drawn;
       }
 

@@ -1,5 +1,5 @@
 -- The facts about the accounts that are true of every reached office.
-use Rattle.office_machine.proofs.Names.{◌≡◌, ℕ, ◌+◌, ◌≤◌, Bool, true, false, cond, List, Some, None, IsSome, is_some, same_id, sum_over, is_open, is_active, is_raise, is_less, is_payment, LotRow, LotState, AwardRow, ContractRow, Tables, find_line, find_lot, find_notice, find_award, find_contract, entry_sum, plus, minus, paid_under, is_on_line, Given, Move, Outside, Free, Reserved, Contracted, Paid, inflow, outflow, moves, reserved_for, brought, taken, appropriation, free}
+use Rattle.office_machine.proofs.Names.{◌≡◌, ℕ, ◌+◌, ◌≤◌, Bool, true, false, cond, List, Some, None, is_some, same_id, sum_over, is_open, is_active, is_raise, is_less, is_payment, LotRow, LotState, AwardRow, ContractRow, Tables, find_lot, find_award, find_contract, entry_sum, plus, minus, paid_under, is_on_line, Given, Move, Outside, Free, Reserved, Contracted, Paid, inflow, outflow, moves, reserved_for, brought, taken, appropriation, free}
 use Rattle.office_base.specs.declared.records.LotState.TheVariants as lot_states
 
 abbrev pub is_awarded : LotState → Bool
@@ -31,20 +31,17 @@ pub record PotsAre (ms : List Move) (s : Tables) (q : List ℕ) : Type 0 where
   pub paid_is : over_contracts (paid_under s.entries) s.lots s.contracts q ≡ inflow ms q Paid
   pub none_spent : outflow ms q Paid ≡ 0
 
--- a lot's notice and line exist; while the lot is open, it has reserved the amount that is to be held for it
-pub record LotIs (xs : List Given) (s : Tables) (key : List ℕ × List ℕ) (lot : LotRow) : Type 0 where
-  pub of_notice : IsSome (find_notice s.notices key.0)
-  pub on_line : IsSome (find_line s.lines lot.line)
-  pub held : is_open lot.state ≡ true → reserved_for xs key ≡ lot.reserved
+-- while a lot is open, it has reserved the amount that is to be held for it
+abbrev pub LotIs : List Given → List ℕ × List ℕ → LotRow → Type 0
+LotIs xs key lot = is_open lot.state ≡ true → reserved_for xs key ≡ lot.reserved
 
--- an award's lot exists; while the award is active, the lot is awarded and has reserved the award's price
+-- while an award is active, its lot is awarded and has reserved the award's price
 pub record AwardIs (s : Tables) (number : ℕ) (award : AwardRow) : Type 0 where
   pub drawn : number ≤ s.clock.awards
-  pub of_lot : (l : LotRow) × (find_lot s.lots (award.notice, award.lot) ≡ Some l) × (is_active award.state ≡ true → (is_awarded l.state ≡ true) × (l.reserved ≡ award.price))
+  pub of_lot : (l : LotRow) → find_lot s.lots (award.notice, award.lot) ≡ Some l → is_active award.state ≡ true → (is_awarded l.state ≡ true) × (l.reserved ≡ award.price)
 
--- a contract's lot and award exist; nothing is released while it runs; its sums are the amounts that commands brought and took
+-- a contract's award exists; nothing is released while it runs; its sums are the amounts that commands brought and took
 pub record ContractIs (xs : List Given) (s : Tables) (number : ℕ) (c : ContractRow) : Type 0 where
-  pub of_lot : IsSome (find_lot s.lots (c.notice, c.lot))
   pub of_award : (w : AwardRow) × (find_award s.awards number ≡ Some w) × (is_active w.state ≡ false)
   pub running : is_some c.ended ≡ false → c.released ≡ 0
   pub within : minus s.entries c ≤ plus s.entries c
@@ -61,7 +58,7 @@ pub record NoContractIs (xs : List Given) (s : Tables) (number : ℕ) : Type 0 w
 
 pub record AccountsStand (xs : List Given) (s : Tables) : Type 0 where
   pub pots : (q : List ℕ) → PotsAre (moves xs) s q
-  pub lots : (key : List ℕ × List ℕ) (lot : LotRow) → find_lot s.lots key ≡ Some lot → LotIs xs s key lot
+  pub lots : (key : List ℕ × List ℕ) (lot : LotRow) → find_lot s.lots key ≡ Some lot → LotIs xs key lot
   pub awards : (number : ℕ) (award : AwardRow) → find_award s.awards number ≡ Some award → AwardIs s number award
   pub one_active : (a b : ℕ) (w v : AwardRow) → find_award s.awards a ≡ Some w → find_award s.awards b ≡ Some v → is_active w.state ≡ true → is_active v.state ≡ true → w.notice ≡ v.notice → w.lot ≡ v.lot → a ≡ b
   pub contracts : (number : ℕ) (c : ContractRow) → find_contract s.contracts number ≡ Some c → ContractIs xs s number c

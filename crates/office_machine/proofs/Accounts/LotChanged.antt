@@ -1,5 +1,5 @@
 -- A lot gets another state and another reserved amount.
-use Rattle.office_machine.proofs.Names.{◌≡◌, ℕ, ◌+◌, ◌≤◌, Bool, true, false, cond, List, ◌∷◌, Some, refl, sym, ◌∙◌, ap, subst, ◌⊎◌, inl, inr, arith, IsSome, nat_cmp-IsAntisymmetric, nat_cmp_total, nat_cmp, eq_by_cmp, same_id, same_number, Tables, lot_cmp, find_line, put_line, find_notice, find_lot, put_lot, find_award, put_award, find_contract, is_open, is_active, LotState, AwardState, LineRow, LotRow, AwardRow, ContractRow, plus, minus, paid_under, Given, Free, Reserved, moves, reserved_for, equal_keys, other_keys, lots_exact, own_key}
+use Rattle.office_machine.proofs.Names.{◌≡◌, ℕ, ◌+◌, ◌≤◌, true, false, cond, List, ◌∷◌, Some, refl, sym, ◌∙◌, ap, subst, ◌⊎◌, inl, inr, arith, nat_cmp-IsAntisymmetric, nat_cmp_total, nat_cmp, eq_by_cmp, same_id, same_number, Tables, lot_cmp, find_line, put_line, find_lot, put_lot, find_award, put_award, find_contract, is_open, is_active, LotState, AwardState, LineRow, LotRow, AwardRow, ContractRow, plus, minus, paid_under, Given, Free, Reserved, moves, reserved_for, other_keys, own_key}
 use Rattle.office_machine.proofs.Accounts.Joins.{over_contracts-lot_kept, reserved-replaced, free-replaced}
 use Rattle.office_machine.proofs.Rows.Keyed.{found, found_put, elsewhere}
 use Rattle.office_machine.proofs.Rows.Keyed as keyed
@@ -23,36 +23,29 @@ module _ (xs : List Given) (s : Tables) (kept : AccountsStand xs s) (l : LotRow)
   reserved_after q = reserved-replaced s.lots l lot_after q here refl
 
   -- if the facts are true of the changed lot, they are true of every lot
-  pub lots_are : (x : Given) (s' : Tables) → s'.lots ≡ lots_after → ((q : List ℕ) → IsSome (find_line s.lines q) → IsSome (find_line s'.lines q)) → ((q : List ℕ) → IsSome (find_notice s.notices q) → IsSome (find_notice s'.notices q))
+  pub lots_are : (x : Given)
       → (is_open state ≡ true → reserved_for (x ∷ xs) (l.notice, l.lot) ≡ amount)
       → ((j : List ℕ × List ℕ) → eq_by_cmp lot_cmp j (l.notice, l.lot) ≡ false → reserved_for (x ∷ xs) j ≡ reserved_for xs j)
-      → (j : List ℕ × List ℕ) (y : LotRow) → find_lot s'.lots j ≡ Some y → LotIs (x ∷ xs) s' j y
-  lots_are x s' is lines notices now others j y h =
-      by (found keyed.lots s.lots lot_after j y (ap (λ m. find_lot m j) (sym is) ∙ h))
+      → (j : List ℕ × List ℕ) (y : LotRow) → find_lot lots_after j ≡ Some y → LotIs (x ∷ xs) j y
+  lots_are x now others j y h = by (found keyed.lots s.lots lot_after j y h)
     where
-      by : ((j ≡ (l.notice, l.lot)) × (y ≡ lot_after)) ⊎ ((eq_by_cmp lot_cmp j (l.notice, l.lot) ≡ false) × (find_lot s.lots j ≡ Some y)) → LotIs (x ∷ xs) s' j y
-      by (inl p) =
-          let P : List ℕ × List ℕ → LotRow → Type 0 = λ j y. LotIs (x ∷ xs) s' j y in
-          let old = kept.lots (l.notice, l.lot) l here in
-          let changed : P (l.notice, l.lot) lot_after = record { of_notice = notices l.notice old.of_notice; on_line = lines l.line old.on_line; held = now } in
-          subst (λ j. P j y) (sym p.0) (subst (P (l.notice, l.lot)) (sym p.1) changed)
-      by (inr p) =
-          let old = kept.lots j y p.1 in
-          record { of_notice = notices j.0 old.of_notice; on_line = lines y.line old.on_line; held = λ e. others j p.0 ∙ old.held e }
+      by : ((j ≡ (l.notice, l.lot)) × (y ≡ lot_after)) ⊎ ((eq_by_cmp lot_cmp j (l.notice, l.lot) ≡ false) × (find_lot s.lots j ≡ Some y)) → LotIs (x ∷ xs) j y
+      by (inl p) = subst (λ j. LotIs (x ∷ xs) j y) (sym p.0) (subst (LotIs (x ∷ xs) (l.notice, l.lot)) (sym p.1) now)
+      by (inr p) = λ e. others j p.0 ∙ kept.lots j y p.1 e
 
   -- the facts remain true of an award, unless it is an active one of this lot
   pub award_is : (s' : Tables) → s'.lots ≡ lots_after → s.clock.awards ≤ s'.clock.awards → (a : ℕ) (v : AwardRow) → find_award s.awards a ≡ Some v
       → (is_active v.state ≡ true → v.notice ≡ l.notice → v.lot ≡ l.lot → ⊥) → AwardIs s' a v
-  award_is s' is later a v h none = record { drawn = omega (arith, old.drawn, later); of_lot = of (eq_by_cmp lot_cmp (v.notice, v.lot) (l.notice, l.lot)) refl }
+  award_is s' is later a v h none = record { drawn = omega (arith, old.drawn, later); of_lot = λ m h active. of m active (found keyed.lots s.lots lot_after (v.notice, v.lot) m (ap (λ rows. find_lot rows (v.notice, v.lot)) (sym is) ∙ h)) }
     where
       old : AwardIs s a v
       old = kept.awards a v h
 
-      of : (e : Bool) → eq_by_cmp lot_cmp (v.notice, v.lot) (l.notice, l.lot) ≡ e → (m : LotRow) × (find_lot s'.lots (v.notice, v.lot) ≡ Some m) × (is_active v.state ≡ true → (is_awarded m.state ≡ true) × (m.reserved ≡ v.price))
-      of true e =
-          let j = equal_keys lots_exact (v.notice, v.lot) (l.notice, l.lot) e in
-          (lot_after, ap (λ m. find_lot m (v.notice, v.lot)) is ∙ (ap (find_lot lots_after) j ∙ there_after), λ f. absurd (none f (ap (λ k. k.0) j) (ap (λ k. k.1) j)))
-      of false e = (old.of_lot.0, ap (λ m. find_lot m (v.notice, v.lot)) is ∙ (elsewhere keyed.lots s.lots lot_after (v.notice, v.lot) e ∙ old.of_lot.1), old.of_lot.2)
+      of : (m : LotRow) → is_active v.state ≡ true
+          → ((◌≡◌ {A = List ℕ × List ℕ} (v.notice, v.lot) (l.notice, l.lot)) × (m ≡ lot_after)) ⊎ ((eq_by_cmp lot_cmp (v.notice, v.lot) (l.notice, l.lot) ≡ false) × (find_lot s.lots (v.notice, v.lot) ≡ Some m))
+          → (is_awarded m.state ≡ true) × (m.reserved ≡ v.price)
+      of m active (inl p) = absurd (none active (ap (λ (k : List ℕ × List ℕ). k.0) p.0) (ap (λ (k : List ℕ × List ℕ). k.1) p.0))
+      of m active (inr p) = old.of_lot m p.1 active
 
   -- the difference moves between the lot's reserved amount and the free amount of its line
   module _ (w : LineRow) (line_is : w.line ≡ l.line) (line_here : find_line s.lines w.line ≡ Some w) (q : List ℕ) (n free : ℕ) where
@@ -117,7 +110,7 @@ module _ (xs : List Given) (s : Tables) (kept : AccountsStand xs s) (l : LotRow)
         let old = kept.awards w.award w is in
         let own : AwardIs s' w.award award_after = record {
           drawn = omega (arith, old.drawn, later);
-          of_lot = (lot_after, ap (λ m. find_lot m (w.notice, w.lot)) lots ∙ (ap (find_lot lots_after) (sym at) ∙ there_after), λ e. absurd (let f : true ≡ false = sym e ∙ inactive in cc));
+          of_lot = λ m h e. absurd (let f : true ≡ false = sym e ∙ inactive in cc);
         } in
         subst (λ b. AwardIs s' b v) (sym p.0) (subst (AwardIs s' w.award) (sym p.1) own)
     settled_by s' lots later b v (inr p) = award_is s' lots later b v p.1 (alone b v p.0 p.1)

@@ -1,5 +1,5 @@
 -- The outstanding amount of a contract after a command on it.
-use Rattle.office_machine.proofs.Names.{◌≡◌, ℕ, ◌+◌, ◌≤◌, Bool, true, false, cond, ◌&&◌, List, Option, Some, None, is_some, refl, sym, ◌∙◌, ap, subst, arith, [], nat_cmp_total, AllByRecursion, list_any, Caller, Command, AmendContract, Pay, End, ChangeKind, How, Refusal, PerformanceRow, is_raise, is_less, entry_sum, plus, minus, outstanding, notice_of_contract, lot_of_contract, line_of_lot, holds_of, Tables, same_number, line_at, notice_at, lot_at, contract_at, find_contract, put_contract, find_entry, put_entry, entries_of_contract, after_puts, performance_at, EntryKind, LineRow, NoticeRow, LotRow, ContractRow, EntryRow, is_taken, has_ended, is_beyond, change_row, amend_contract_puts, payment_row, pay_puts, ended_contract, end_puts, Readings, Means, Given, Reaches, time_of, command_tests, left_with, left_by_payment, left_by_change, left_by_end, left_before, notice_under, line_under, IsLeft, LeftIsKnown, OutstandingIsKept, LeftIsBooked, left_of, found_key, own_key}
+use Rattle.office_machine.proofs.Names.{HaveParents, ◌≡◌, ℕ, ◌+◌, ◌≤◌, Bool, true, false, cond, ◌&&◌, List, Option, Some, None, is_some, refl, sym, ◌∙◌, ap, subst, arith, [], nat_cmp_total, AllByRecursion, list_any, Caller, Command, AmendContract, Pay, End, ChangeKind, How, Refusal, PerformanceRow, is_raise, is_less, entry_sum, plus, minus, outstanding, notice_of_contract, lot_of_contract, line_of_lot, holds_of, Tables, same_number, line_at, notice_at, lot_at, contract_at, find_contract, put_contract, find_entry, put_entry, entries_of_contract, after_puts, performance_at, EntryKind, LineRow, NoticeRow, LotRow, ContractRow, EntryRow, is_taken, has_ended, is_beyond, change_row, amend_contract_puts, payment_row, pay_puts, ended_contract, end_puts, Readings, Means, Given, Reaches, time_of, command_tests, left_with, left_by_payment, left_by_change, left_by_end, left_before, notice_under, line_under, IsLeft, LeftIsKnown, OutstandingIsKept, LeftIsBooked, left_of, found_key, own_key}
 use Rattle.office_commands.specs.declared.contract.ChangeKind.TheVariants as change_kinds
 use Rattle.office_machine.proofs.Accounts.Entered.{not_taken}
 use Rattle.office_machine.proofs.Accounts.Joins.{entry_sum-new, entry_sum-own, outstanding-own}
@@ -7,6 +7,7 @@ use Rattle.office_machine.proofs.Rows.Keyed.{found_put}
 use Rattle.office_machine.proofs.Rows.Keyed as keyed
 use Rattle.office_machine.proofs.Accounts.Kept.{AccountsStand}
 use Rattle.office_machine.proofs.Accounts.AccountsKept.{all_kept}
+use Rattle.office_machine.proofs.Parents.ParentsThere.{parents_there}
 use Rattle.office_machine.proofs.Passed.{none_holds, allowed_by, not_false, not_both, at_least, witness, test_of}
 
 -- the outstanding amount of a contract in an office
@@ -123,6 +124,9 @@ module _ (means : Means) (xs : List Given) (s : Tables) (reached : Reaches means
   kept : AccountsStand xs s
   kept = all_kept means xs s reached
 
+  have : HaveParents s s
+  have = parents_there means xs s reached
+
   contract : (r : ContractRow) × (contract_at c s ≡ Some r)
   contract = witness (contract_at c s) there
 
@@ -133,13 +137,13 @@ module _ (means : Means) (xs : List Given) (s : Tables) (reached : Reaches means
   is = contract.1
 
   lot : (l : LotRow) × (lot_at (r.notice, r.lot) s ≡ Some l)
-  lot = witness (lot_at (r.notice, r.lot) s) (kept.contracts c r is).of_lot
+  lot = witness (lot_at (r.notice, r.lot) s) (have.contracts c r is).lot
 
   notice : (n : NoticeRow) × (notice_at r.notice s ≡ Some n)
-  notice = witness (notice_at r.notice s) (kept.lots (r.notice, r.lot) lot.0 lot.1).of_notice
+  notice = witness (notice_at r.notice s) (have.contracts c r is).notice
 
   line : (w : LineRow) × (line_at lot.0.line s ≡ Some w)
-  line = witness (line_at lot.0.line s) (kept.lots (r.notice, r.lot) lot.0 lot.1).on_line
+  line = witness (line_at lot.0.line s) (have.lots (r.notice, r.lot) lot.0 lot.1).line
 
   notice_is : notice_under c s ≡ Some notice.0
   notice_is = ap (λ o. notice_of_contract o s) is ∙ notice.1

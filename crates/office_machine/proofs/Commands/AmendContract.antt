@@ -1,6 +1,6 @@
 -- The amendment of a contract keeps the laws of the office.
 pub mod Gentle
-use Rattle.office_machine.proofs.Names.{max, IsSome, Option, ◌≡◌, ℕ, ◌+◌, ◌-◌, ◌≤◌, Bool, true, false, cond, not, ◌&&◌, List, [], ◌∷◌, Some, None, is_some, refl, sym, ◌∙◌, ap, subst, arith, ◌||◌, AllByRecursion, same_id, Refusal, Caller, ChangeKind, AmendContract, IsSorted, same_number, Tables, line_at, notice_at, lot_at, contract_at, find_line, put_line, find_entry, put_entry, entries_of_contract, after_puts, holds_of, first_of, with_next_release, clock_put, has_all_releases, LineRow, NoticeRow, LotRow, ContractRow, EntryRow, plus, minus, outstanding, paid_under, free_in, notice_of_contract, lot_of_contract, line_of_lot, is_raise, is_less, is_payment, ClockRow, amend_contract_tests, amend_contract_rows, is_running, is_beyond, has_ended, is_raising, entry_kind, line_after, change_row, amend_contract_puts, amend_contract_lacks, HaveParents, Given, time_of, command_tests, effect, Readings, moves, line_in, raised_by, cut_by, move_of_change, found_key}
+use Rattle.office_machine.proofs.Names.{max, Option, ◌≡◌, ℕ, ◌+◌, ◌-◌, ◌≤◌, Bool, true, false, cond, not, ◌&&◌, List, [], ◌∷◌, Some, None, is_some, refl, sym, ◌∙◌, ap, subst, arith, ◌||◌, AllByRecursion, same_id, Refusal, Caller, ChangeKind, AmendContract, IsSorted, same_number, Tables, line_at, notice_at, lot_at, contract_at, find_line, put_line, find_entry, put_entry, entries_of_contract, after_puts, holds_of, first_of, with_next_release, clock_put, has_all_releases, LineRow, NoticeRow, LotRow, ContractRow, EntryRow, plus, minus, outstanding, paid_under, free_in, notice_of_contract, lot_of_contract, line_of_lot, is_raise, is_less, is_payment, ClockRow, amend_contract_tests, amend_contract_rows, is_running, is_beyond, has_ended, is_raising, entry_kind, line_after, change_row, amend_contract_puts, amend_contract_lacks, HaveParents, Given, time_of, command_tests, effect, Readings, moves, line_in, raised_by, cut_by, move_of_change, found_key}
 use Rattle.office_commands.specs.declared.commands.Command.TheVariants as commands
 use Rattle.office_commands.specs.declared.contract.ChangeKind.TheVariants as change_kinds
 use Rattle.office_base.specs.declared.puts.Put.TheVariants as puts
@@ -9,7 +9,7 @@ use Rattle.office_machine.proofs.Commands.Tail.{on_contract, moved, front}
 use Rattle.office_machine.proofs.FateLaws.QuietFates.{Stands, contract_notice, kept_after, one_more}
 use Rattle.office_machine.proofs.Parents.RowsHave.{entry_has}
 use Rattle.office_machine.proofs.Accounts.Aside.{kept_aside}
-use Rattle.office_machine.proofs.Rows.Keyed.{found, still_there}
+use Rattle.office_machine.proofs.Rows.Keyed.{found}
 use Rattle.office_machine.proofs.Accounts.Kept.{AccountsStand, PotsAre, ContractIs, over_contracts}
 use Rattle.office_machine.proofs.Accounts.Joins.{outstanding-own, free-replaced}
 use Rattle.office_machine.proofs.Passed.{none_holds, not_false, not_both, not_all, at_least, witness, test_of, split, neither}
@@ -132,14 +132,10 @@ module _ (readings : Readings) (xs : List Given) (s : Tables) (moment : ℕ) (ca
         (losses x xs s kept order c r l row is lot number new_here comes goes (within_by kind enough) q)
         (let paid = payments x xs s kept order c r l row is lot number new_here comes goes (within_by kind enough) q in omega (arith, paid, zero_at (same_id l.line q) _ (isnt_paid kind amount)))
 
-    there_by : (k : ChangeKind) (q : List ℕ) → IsSome (find_line s.lines q) → IsSome (find_line (put_line s.lines (line_after k amount w)) q)
-    there_by change_kinds.Raise q h = still_there keyed.lines s.lines _ q h
-    there_by change_kinds.Cut q h = still_there keyed.lines s.lines _ q h
-
     entered_keeps : AccountsStand (x ∷ xs) s'
     entered_keeps = record {
       pots = pots;
-      lots = λ k l h. let old = kept.lots k l h in record { of_notice = old.of_notice; on_line = there_by kind l.line old.on_line; held = old.held };
+      lots = kept.lots;
       awards = λ a w h. let old = kept.awards a w h in record { drawn = old.drawn; of_lot = old.of_lot };
       one_active = kept.one_active;
       contracts = contracts_are x xs s kept order c r l row is lot number new_here comes goes (within_by kind enough) s';
@@ -153,7 +149,7 @@ module _ (readings : Readings) (xs : List Given) (s : Tables) (moment : ℕ) (ca
     keeps = subst (λ ps. AccountsStand (x ∷ xs) (after_puts ps s)) effect_is
         (kept_aside (x ∷ xs) (puts.Notice (with_next_release n) ∷ clock_put s.clock (time_of x) ∷ []) s' (tt, (omega arith, tt)) entered_keeps)
 
-  module _ (allowed : first_of (command_tests x) ≡ None) where
+  module _ (have : HaveParents s s) (allowed : first_of (command_tests x) ≡ None) where
     passes : AllByRecursion (λ (test : Bool × Refusal). test.0 ≡ false) (command_tests x)
     passes = none_holds (command_tests x) allowed
 
@@ -174,10 +170,10 @@ module _ (readings : Readings) (xs : List Given) (s : Tables) (moment : ℕ) (ca
         let found = witness (contract_at c s) (not_false _ passes.0) in
         let r = found.0 in
         let is = found.1 in
-        let lot = witness _ (kept.contracts c r is).of_lot in
-        let of_lot = kept.lots (r.notice, r.lot) lot.0 lot.1 in
-        let notice = witness _ of_lot.of_notice in
-        let line = witness _ of_lot.on_line in
+        let of = have.contracts c r is in
+        let lot = witness _ of.lot in
+        let notice = witness _ of.notice in
+        let line = witness _ (have.lots (r.notice, r.lot) lot.0 lot.1).line in
         let runs : is_some r.ended ≡ false = test_of has_ended (contract_at c s) r is false passes.1.1.1.1.0 in
         keeps r lot.0 notice.0 line.0 is lot.1 notice.1 line.1 (not_taken s.entries c entry passes.1.0) (enough_by kind r lot.0 line.0 is lot.1 line.1 runs passes.1.1.0 passes.1.1.1.0)
 
@@ -225,7 +221,7 @@ none_lacking xs s whole contract (Some c) is =
 
 pub amend_contract : (contract : ℕ) (entry : List ℕ) (kind : ChangeKind) (amount : ℕ) (rationale : List ℕ) → Lawful (AmendContract contract entry kind amount rationale)
 amend_contract contract entry kind amount rationale = record {
-  accounts = Moving (λ readings xs s moment caller kept order own allowed. amend_contract_keeps readings xs s moment caller contract entry kind amount rationale kept order allowed);
+  accounts = Moving (λ readings xs s moment caller kept order have own allowed. amend_contract_keeps readings xs s moment caller contract entry kind amount rationale kept order have allowed);
   fates = λ readings. fates_kept readings contract entry kind amount rationale;
   tail = λ readings s moment caller have allowed.
       let tests = none_holds (amend_contract_tests (amend_contract_rows s contract) entry kind amount) allowed in

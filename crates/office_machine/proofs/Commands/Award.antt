@@ -82,7 +82,7 @@ none_lacking s have notice lot (Some l) is = ap not (have.lots (notice, lot) l i
 
 pub award : (notice lot : List ℕ) → Lawful (Award notice lot)
 award notice lot = record {
-  accounts = Moving (λ readings xs s moment caller kept order own allowed. award_keeps readings xs s moment caller notice lot kept allowed);
+  accounts = Moving (λ readings xs s moment caller kept order have own allowed. award_keeps readings xs s moment caller notice lot kept have allowed);
   fates = λ readings. award_fates.award_keeps readings notice lot;
   tail = λ readings s moment caller have allowed.
       let now : ℕ = max moment s.clock.moment in

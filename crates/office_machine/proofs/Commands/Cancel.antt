@@ -98,7 +98,7 @@ module _ (s : Tables) (have : HaveParents s s) (order : IsSorted s) where
 
 pub cancel : (notice rationale : List ℕ) → Lawful (Cancel notice rationale)
 cancel notice rationale = record {
-  accounts = Moving (λ readings xs s moment caller kept order own allowed. cancel_keeps readings xs s moment caller notice rationale kept order allowed);
+  accounts = Moving (λ readings xs s moment caller kept order have own allowed. cancel_keeps readings xs s moment caller notice rationale kept order allowed);
   fates = λ readings. cancel_fates.cancel_keeps readings notice rationale;
   tail = λ readings s moment caller have allowed.
       let now : ℕ = max moment s.clock.moment in

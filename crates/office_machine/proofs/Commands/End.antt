@@ -1,6 +1,6 @@
 -- The end of a contract keeps the laws of the office.
 pub mod Gentle
-use Rattle.office_machine.proofs.Names.{max, Option, nat_lt, ◌≡◌, ℕ, ◌+◌, Bool, true, false, cond, List, ◌∷◌, Some, None, is_some, refl, sym, ◌∙◌, ap, subst, ◌⊎◌, inl, inr, arith, [], not, ◌||◌, ◌&&◌, nat_cmp-IsAntisymmetric, nat_cmp_total, AllByRecursion, nat_cmp, eq_by_cmp, same_id, Refusal, Caller, How, End, IsSorted, same_number, Tables, line_at, notice_at, lot_at, contract_at, find_line, put_line, find_contract, put_contract, entries_of_contract, after_puts, performance_at, of_notice, first_of, holds_of, with_next_release, clock_put, performance_settled, put_if, settled_performance, LineRow, NoticeRow, LotRow, ContractRow, plus, minus, outstanding, paid_under, notice_of_contract, lot_of_contract, line_of_lot, PerformanceRow, EntryRow, ClockRow, other_keys, end_tests, end_rows, ended_contract, ended_state, end_puts, end_lacks, lacks_performance, has_ended, HaveParents, Given, time_of, command_tests, effect, Readings, moves, brought, taken, owed, line_in, found_key, own_key}
+use Rattle.office_machine.proofs.Names.{max, Option, nat_lt, ◌≡◌, ℕ, ◌+◌, Bool, true, false, cond, List, ◌∷◌, Some, None, is_some, refl, sym, ◌∙◌, ap, subst, ◌⊎◌, inl, inr, arith, [], not, ◌||◌, ◌&&◌, nat_cmp-IsAntisymmetric, nat_cmp_total, AllByRecursion, nat_cmp, eq_by_cmp, same_id, Refusal, Caller, How, End, IsSorted, same_number, Tables, line_at, notice_at, lot_at, contract_at, find_line, put_line, find_contract, put_contract, entries_of_contract, after_puts, performance_at, first_of, holds_of, with_next_release, clock_put, performance_settled, put_if, settled_performance, LineRow, NoticeRow, LotRow, ContractRow, plus, minus, outstanding, paid_under, notice_of_contract, lot_of_contract, line_of_lot, PerformanceRow, EntryRow, ClockRow, other_keys, end_tests, end_rows, ended_contract, ended_state, end_puts, end_lacks, lacks_performance, has_ended, HaveParents, Given, time_of, command_tests, effect, Readings, moves, brought, taken, owed, line_in, found_key, own_key}
 use Rattle.office_commands.specs.declared.commands.Command.TheVariants as commands
 use Rattle.office_base.specs.declared.puts.Put.TheVariants as puts
 use Rattle.office_machine.proofs.Parents.SpokenOf.{of_contract}
@@ -10,7 +10,7 @@ use Rattle.office_machine.proofs.Worlds.WorldsPut.{plain-if, IsPlain, plain_pair
 use Rattle.office_machine.proofs.Commands.Tail.{on_contract, moved, bonded, front}
 use Rattle.office_machine.proofs.FateLaws.QuietFates.{Stands, contract_notice, kept_after, one_more}
 use Rattle.office_machine.proofs.Accounts.Aside.{kept_aside, aside-if}
-use Rattle.office_machine.proofs.Rows.Keyed.{found, still_there, none_before}
+use Rattle.office_machine.proofs.Rows.Keyed.{found, none_before}
 use Rattle.office_machine.proofs.Accounts.Kept.{AccountsStand, PotsAre, ContractIs, NoContractIs, over_contracts}
 use Rattle.office_machine.proofs.Accounts.Joins.{outstanding-own, over_contracts-replaced, free-replaced}
 use Rattle.office_machine.proofs.Passed.{none_holds, not_false, witness, test_of, split}
@@ -88,7 +88,6 @@ module _ (readings : Readings) (xs : List Given) (s : Tables) (moment : ℕ) (ca
         by (inl p) =
             let at : ContractIs (x ∷ xs) s' r.contract r' =
             record {
-              of_lot = contract_is.of_lot;
               of_award = (contract_is.of_award.0, ap (Rattle.office_base.specs.Tables.find_award s.awards) number ∙ contract_is.of_award.1, contract_is.of_award.2);
               running = λ e. cc;
               within = omega (arith, contract_is.within, contract_is.running runs, left_is);
@@ -98,7 +97,6 @@ module _ (readings : Readings) (xs : List Given) (s : Tables) (moment : ℕ) (ca
             in
             subst (λ n. ContractIs (x ∷ xs) s' n y) (sym p.0) (subst (ContractIs (x ∷ xs) s' r.contract) (sym p.1) at)
         by (inr p) = record {
-          of_lot = old.of_lot;
           of_award = old.of_award;
           running = old.running;
           within = old.within;
@@ -122,7 +120,7 @@ module _ (readings : Readings) (xs : List Given) (s : Tables) (moment : ℕ) (ca
     ended_keeps : AccountsStand (x ∷ xs) s'
     ended_keeps = record {
       pots = pots;
-      lots = λ k l h. let old = kept.lots k l h in record { of_notice = old.of_notice; on_line = still_there keyed.lines s.lines _ l.line old.on_line; held = old.held };
+      lots = kept.lots;
       awards = λ a w h. let old = kept.awards a w h in record { drawn = old.drawn; of_lot = old.of_lot };
       one_active = kept.one_active;
       contracts = contracts;
@@ -136,7 +134,7 @@ module _ (readings : Readings) (xs : List Given) (s : Tables) (moment : ℕ) (ca
     keeps = subst (λ ps. AccountsStand (x ∷ xs) (after_puts ps s)) effect_is
         (kept_aside (x ∷ xs) (puts.Notice (with_next_release n) ∷ clock_put s.clock (time_of x) ∷ put_if (performance_settled (ended_state how)) (performance_at c s)) s' (tt, (omega arith, aside-if s.clock.awards (performance_settled (ended_state how)) (performance_at c s) (λ _. tt))) ended_keeps)
 
-  module _ (allowed : first_of (command_tests x) ≡ None) where
+  module _ (have : HaveParents s s) (allowed : first_of (command_tests x) ≡ None) where
     passes : AllByRecursion (λ (test : Bool × Refusal). test.0 ≡ false) (command_tests x)
     passes = none_holds (command_tests x) allowed
 
@@ -145,10 +143,10 @@ module _ (readings : Readings) (xs : List Given) (s : Tables) (moment : ℕ) (ca
         let found = witness (contract_at c s) (not_false _ passes.0) in
         let r = found.0 in
         let is = found.1 in
-        let lot = witness _ (kept.contracts c r is).of_lot in
-        let of_lot = kept.lots (r.notice, r.lot) lot.0 lot.1 in
-        let notice = witness _ of_lot.of_notice in
-        let line = witness _ of_lot.on_line in
+        let of = have.contracts c r is in
+        let lot = witness _ of.lot in
+        let notice = witness _ of.notice in
+        let line = witness _ (have.lots (r.notice, r.lot) lot.0 lot.1).line in
         keeps r lot.0 notice.0 line.0 is lot.1 notice.1 line.1 (test_of has_ended (contract_at c s) r is false passes.1.0)
 
 -- the puts touch no tender and no security
@@ -203,7 +201,7 @@ module _ (xs : List Given) (s : Tables) (whole : IsWhole xs s) (contract : ℕ) 
 
 pub end_contract : (contract : ℕ) (how : How) → Lawful (End contract how)
 end_contract contract how = record {
-  accounts = Moving (λ readings xs s moment caller kept order own allowed. end_keeps readings xs s moment caller contract how kept order allowed);
+  accounts = Moving (λ readings xs s moment caller kept order have own allowed. end_keeps readings xs s moment caller contract how kept order have allowed);
   fates = λ readings. fates_kept readings contract how;
   tail = λ readings s moment caller have allowed.
       let tests = none_holds (end_tests (end_rows s contract)) allowed in

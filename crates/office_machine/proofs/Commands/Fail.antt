@@ -89,7 +89,7 @@ module _ (s : Tables) (have : HaveParents s s) where
 
 pub fail : (award : ℕ) → Lawful (Fail award)
 fail award = record {
-  accounts = Moving (λ readings xs s moment caller kept order own allowed. fail_keeps readings xs s moment caller award kept allowed);
+  accounts = Moving (λ readings xs s moment caller kept order have own allowed. fail_keeps readings xs s moment caller award kept have allowed);
   fates = λ readings. fail_fates.fail_keeps readings award;
   tail = λ readings s moment caller have allowed.
       let now : ℕ = max moment s.clock.moment in

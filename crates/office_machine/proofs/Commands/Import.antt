@@ -26,7 +26,7 @@ fates_kept readings batch rows xs t m caller kept own allowed =
 
 pub import_budget : (batch : List ℕ) (rows : List BudgetRow) → Lawful (Import batch rows)
 import_budget batch rows = record {
-  accounts = Moving (λ readings xs s moment caller kept order own allowed. import_keeps readings xs s moment caller batch rows kept order allowed);
+  accounts = Moving (λ readings xs s moment caller kept order have own allowed. import_keeps readings xs s moment caller batch rows kept order allowed);
   fates = λ readings. fates_kept readings batch rows;
   tail = λ readings s moment caller have allowed.
       front_map (imported_line_put (after_rows (standings s) rows)) rows (λ _. refl) (front (puts.Batch _ ∷ []) (refl, tt) (quiet _ [] tt refl (omega arith)));

@@ -17,7 +17,7 @@ given s moment caller command = record { before = s; moment = moment; caller = c
 -- the command touches no book and moves nothing, or it is shown to keep the books
 pub data KeepsBooks (command : Command) : Type 0 where
   Idle : touches_books (touches command) ≡ false → ((s : Tables) (moment : ℕ) (caller : Caller) (xs : List Given) → IsIdle (given s moment caller command) xs) → KeepsBooks command
-  Moving : ((readings : Readings) (xs : List Given) (s : Tables) (moment : ℕ) (caller : Caller) → AccountsStand xs s → IsSorted s → IsCommand command
+  Moving : ((readings : Readings) (xs : List Given) (s : Tables) (moment : ℕ) (caller : Caller) → AccountsStand xs s → IsSorted s → HaveParents s s → IsCommand command
       → first_of (tests_for s (max moment s.clock.moment) caller command) ≡ None
       → AccountsStand (given s moment caller command ∷ xs) (after_puts (puts_for readings s (max moment s.clock.moment) caller command) s)) → KeepsBooks command
 

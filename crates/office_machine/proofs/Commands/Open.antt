@@ -1,7 +1,7 @@
 -- The opening of the tenders of a notice keeps the laws of the office.
 pub mod Fates
 pub mod Gentle
-use Rattle.office_machine.proofs.Names.{max, ℕ, List, [], ◌∷◌, refl, ◌≡◌, Bool, map, filter, Option, Some, None, sym, ◌∙◌, ap, arith, AllByRecursion, Item, Open, Reading, find_seal, seal_at, IsSorted, notice_at, Tables, envelopes_of_notice, lot_at, SealRow, EnvelopeRow, NoticeRow, ClockRow, open_tests, open_rows, opened_put, opened_notice, is_sealed_envelope, opened_envelope, open_puts, sealed_tenders, sealed_tender, bytes_in, items_of_row, ChosenTender, Pairs, HaveParents, EnvelopeHas}
+use Rattle.office_machine.proofs.Names.{LotRow, max, ℕ, List, [], ◌∷◌, refl, ◌≡◌, Bool, map, filter, Option, Some, None, sym, ◌∙◌, ap, arith, AllByRecursion, Item, Open, Reading, find_seal, seal_at, IsSorted, notice_at, Tables, envelopes_of_notice, lot_at, SealRow, EnvelopeRow, NoticeRow, ClockRow, open_tests, open_rows, opened_put, opened_notice, is_sealed_envelope, opened_envelope, open_puts, sealed_tenders, sealed_tender, option_map_or, ChosenTender, Pairs, HaveParents, EnvelopeHas}
 use Rattle.office_base.specs.declared.records.EnvelopeState.TheVariants as envelope_states
 use Rattle.office_machine.proofs.Worlds.WorldsPut.{TwoEnvelopes, Alike, PutPair, Plain, receipt_is, pairs-filter, blind, pairs-append}
 use Rattle.office_machine.proofs.Parents.NoOrphans.{no_tender_lost}
@@ -36,8 +36,10 @@ module _ (th : ChosenTender) (W : ℕ → Bool) (s : Tables) (es' : List Envelop
 
   opened_pair : (read : List ℕ → List Item → Reading) (e e' : EnvelopeRow) → Alike th W e e' → seal_at e.receipt s ≡ find_seal ss' e.receipt → PutPair th W (opened_put read (sealed_tender s e)) (opened_put read (sealed_tender other e'))
   opened_pair read e e' a same =
-      let bytes : bytes_in (find_seal ss' e'.receipt) ≡ bytes_in (seal_at e.receipt s) = ap (λ n. bytes_in (find_seal ss' n)) (receipt_is th W e e' a) ∙ ap bytes_in (sym same) in
-      let items : items_of_row (lot_at (e'.notice, e'.lot) s) ≡ items_of_row (lot_at (e.notice, e.lot) s) = blind th W (λ (e : EnvelopeRow). items_of_row (lot_at (e.notice, e.lot) s)) (λ _ _. refl) e e' a in
+      let held : Option SealRow → List ℕ = λ o. option_map_or (λ (seal : SealRow). seal.bytes) o [] in
+      let its : Option LotRow → List Item = λ o. option_map_or (λ (lot : LotRow). lot.items) o [] in
+      let bytes : held (find_seal ss' e'.receipt) ≡ held (seal_at e.receipt s) = ap (λ n. held (find_seal ss' n)) (receipt_is th W e e' a) ∙ ap held (sym same) in
+      let items : its (lot_at (e'.notice, e'.lot) s) ≡ its (lot_at (e.notice, e.lot) s) = blind th W (λ (e : EnvelopeRow). its (lot_at (e.notice, e.lot) s)) (λ _ _. refl) e e' a in
       TwoEnvelopes (opened_envelope read (sealed_tender s e)) (opened_envelope read (sealed_tender other e')) refl refl
       (record {
         rows = record { but_digest = λ i. record (a.rows.but_digest i) { state = envelope_states.Opened; reading = Some (read (bytes i) (items i)) }; digest = a.rows.digest };

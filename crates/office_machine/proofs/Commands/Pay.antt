@@ -74,7 +74,7 @@ module _ (readings : Readings) (xs : List Given) (s : Tables) (moment : ℕ) (ca
     entered_keeps : AccountsStand (x ∷ xs) s'
     entered_keeps = record {
       pots = pots;
-      lots = λ k l h. let old = kept.lots k l h in record { of_notice = old.of_notice; on_line = old.on_line; held = old.held };
+      lots = kept.lots;
       awards = λ a w h. let old = kept.awards a w h in record { drawn = old.drawn; of_lot = old.of_lot };
       one_active = kept.one_active;
       contracts = contracts_are x xs s kept order c r l row is lot number new_here (λ n. zero_at (same_number c n)) (λ n. refl) within s';
@@ -88,7 +88,7 @@ module _ (readings : Readings) (xs : List Given) (s : Tables) (moment : ℕ) (ca
     keeps = subst (λ ps. AccountsStand (x ∷ xs) (after_puts ps s)) effect_is
         (kept_aside (x ∷ xs) (puts.Notice (with_next_release n) ∷ clock_put s.clock (time_of x) ∷ []) s' (tt, (omega arith, tt)) entered_keeps)
 
-  module _ (allowed : first_of (command_tests x) ≡ None) where
+  module _ (have : HaveParents s s) (allowed : first_of (command_tests x) ≡ None) where
     passes : AllByRecursion (λ (test : Bool × Refusal). test.0 ≡ false) (command_tests x)
     passes = none_holds (command_tests x) allowed
 
@@ -99,8 +99,9 @@ module _ (readings : Readings) (xs : List Given) (s : Tables) (moment : ℕ) (ca
     pay_keeps =
         let r = found_contract.0 in
         let is = found_contract.1 in
-        let lot = witness _ (kept.contracts c r is).of_lot in
-        let notice = witness _ (kept.lots (r.notice, r.lot) lot.0 lot.1).of_notice in
+        let of = have.contracts c r is in
+        let lot = witness _ of.lot in
+        let notice = witness _ of.notice in
         let runs : is_some r.ended ≡ false = test_of has_ended (contract_at c s) r is false passes.1.1.1.0 in
         let beyond = not_both _ _ (test_of (is_beyond (entries_of_contract c s) amount) (contract_at c s) r is false passes.1.1.0) runs in
         let own = outstanding-own s.entries c r (found_key keyed.contracts s.contracts c r is) in
@@ -141,7 +142,7 @@ none_lacking s have contract (Some c) is = ap not (have.contracts contract c is)
 
 pub pay : (contract : ℕ) (entry : List ℕ) (amount : ℕ) → Lawful (Pay contract entry amount)
 pay contract entry amount = record {
-  accounts = Moving (λ readings xs s moment caller kept order own allowed. pay_keeps readings xs s moment caller contract entry amount kept order allowed);
+  accounts = Moving (λ readings xs s moment caller kept order have own allowed. pay_keeps readings xs s moment caller contract entry amount kept order have allowed);
   fates = λ readings. fates_kept readings contract entry amount;
   tail = λ readings s moment caller have allowed.
       let tests = none_holds (pay_tests (pay_rows s contract) entry amount) allowed in

@@ -83,7 +83,7 @@ plain s t notice content =
 
 pub publish : (notice : List ℕ) (content : NewNotice) → Lawful (Publish notice content)
 publish notice content = record {
-  accounts = Moving (λ readings xs s moment caller kept order own allowed. publish_keeps readings xs s moment caller notice content kept order own allowed);
+  accounts = Moving (λ readings xs s moment caller kept order have own allowed. publish_keeps readings xs s moment caller notice content kept order have own allowed);
   fates = λ readings. publish_fates.publish_keeps readings notice content;
   tail = λ readings s moment caller have allowed.
       let now : ℕ = max moment s.clock.moment in

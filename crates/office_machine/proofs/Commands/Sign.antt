@@ -83,7 +83,7 @@ none_lacking s have award (Some a) is = let h = have.awards award a is in λ i. 
 
 pub sign : (award : ℕ) (named : Option NamedSecurity) → Lawful (Sign award named)
 sign award named = record {
-  accounts = Moving (λ readings xs s moment caller kept order own allowed. sign_keeps readings xs s moment caller award named kept order allowed);
+  accounts = Moving (λ readings xs s moment caller kept order have own allowed. sign_keeps readings xs s moment caller award named kept order have allowed);
   fates = λ readings. sign_fates.sign_keeps readings award named;
   tail = λ readings s moment caller have allowed.
       let now : ℕ = max moment s.clock.moment in

@@ -4,7 +4,7 @@ use Rattle.office_base.specs.declared.records.EnvelopeState.TheVariants as state
 use Rattle.office_machine.specs.References.{OfContract}
 use Rattle.office_machine.proofs.Parents.ParentsPut.{all-filter, all-table}
 use Rattle.office_machine.proofs.Parents.Whole.{IsWhole, security_there}
-use Rattle.office_machine.proofs.Passed.{neither, not_false}
+use Rattle.office_machine.proofs.Passed.{neither, not_false, witness}
 use Rattle.office_machine.proofs.Rows.Keyed as keyed
 
 -- If no element passes, none is left.
@@ -113,9 +113,9 @@ module _ (xs : List Given) (s : Tables) (whole : IsWhole xs s) where
   pub price_is_reserved : (award : ℕ) (o : Option AwardRow) → award_at award s ≡ o → holds_of isnt_active o ≡ false → holds_of (reserves_another (lot_of_award o s)) o ≡ false
   price_is_reserved award None is active = refl
   price_is_reserved award (Some a) is active =
-      let of = (whole.accounts.awards award a is).of_lot in
-      ap (holds_of (λ (l : LotRow). not (nat_eq l.reserved a.price))) of.1
-      ∙ ap (λ n. not (nat_eq n a.price)) (of.2 (not_false _ active)).1 ∙ ap not (equal_numbers a.price)
+      let lot = witness _ (whole.parents.awards award a is).lot in
+      ap (holds_of (λ (l : LotRow). not (nat_eq l.reserved a.price))) lot.1
+      ∙ ap (λ n. not (nat_eq n a.price)) ((whole.accounts.awards award a is).of_lot lot.0 lot.1 (not_false _ active)).1 ∙ ap not (equal_numbers a.price)
 
 pub receipt_is_new : (xs : List Given) (s : Tables) → IsWhole xs s → receipt_is_taken s ≡ false
 receipt_is_new xs s whole = λ i. is_some (whole.unused i) || (is_some (whole.no_seal i) || is_some (whole.no_security i))

@@ -7,12 +7,12 @@ ghost use Rattle.office_commands.specs.declared.commands.Command.TheVariants.{Aw
 ghost use Rattle.office_base.specs.Shelves.{Looks, LooksUp};
 ghost use Rattle.office_base.specs.Tables.{Tables};
 ghost use Rattle.office_machine.specs.Replies as replies;
-ghost use Rattle.office_machine.specs.Replies.{release_of};
+ghost use Rattle.office_machine.specs.Replies.{Winning, release_of};
 ghost use Rattle.office_plans.specs.Asking.{given_by};
 ghost use Rattle.office_plans.specs.AwardedLots.{awarded_rows, securities_unless_won};
 ghost use Rattle.office_plans.specs.Published.{IsPlanned, TellsRefusal, accepted_reply};
 ghost use Rattle.office_plans.specs.Released.{IsReleased};
-ghost use Rattle.office_plans.specs.Replies.{award_number, award_price, award_tender, reply_text};
+ghost use Rattle.office_plans.specs.Replies.{reply_text};
 ghost use Rattle.office_values.specs.declared.refusal.Refusal.TheVariants.{Unavailable};
 
 use crate::events::{party_of, status_with};
@@ -86,9 +86,9 @@ fn winner_numbers(
     clock: &ClockRow,
     best: Option<&EnvelopeRow>,
 ) -> (Option<u64>, Option<u64>, Option<u64>)
-    ensures award { result.0 ≡ option_map award_number (option_map (replies.winning clock.now) (option_map (λ e. e.now) best.entry)) }
-    ensures price { result.1 ≡ option_map award_price (option_map (replies.winning clock.now) (option_map (λ e. e.now) best.entry)) }
-    ensures tender { result.2 ≡ option_map award_tender (option_map (replies.winning clock.now) (option_map (λ e. e.now) best.entry)) }
+    ensures award { result.0 ≡ option_map (λ (w : Winning). w.award) (option_map (replies.winning clock.now) (option_map (λ e. e.now) best.entry)) }
+    ensures price { result.1 ≡ option_map (λ (w : Winning). w.price) (option_map (replies.winning clock.now) (option_map (λ e. e.now) best.entry)) }
+    ensures tender { result.2 ≡ option_map (λ (w : Winning). w.tender) (option_map (replies.winning clock.now) (option_map (λ e. e.now) best.entry)) }
 {
     match best {
         Some(row) => (

@@ -1,12 +1,4 @@
-use Rattle.std.proofs.Common.{◌≡◌, ℕ, List, ◌++◌, ◌∷◌, [], All, Some, Result, Ok, Err, String, Global, IfOk, OnOk, string_bytes, sym, subst}
-use Rattle.serde_json.specs.Data.{Data, object, no_members}
-use Rattle.serde_json.specs.Read.{read}
-use Rattle.serde_json.specs.View.{view}
-use Rattle.serde_json.specs.Written.{compact_text}
-use Rattle.ocds_merge.specs.Compile.{with_head}
-use Rattle.ocds_merge.specs.Merge.{merge_or_null}
-use Rattle.ocds_merge.specs.Stored.{IsStorable, IsWrittenMerge, KeepsMerge}
-use Rattle.ocds_merge.specs.declared.stored.StoredFault.{StoredFault}
+use Rattle.ocds_merge.proofs.Names.{◌≡◌, ℕ, List, ◌++◌, ◌∷◌, [], All, Some, Result, Ok, Err, String, Global, IfOk, OnOk, string_bytes, sym, subst, Data, object, no_members, read, view, compact_text, with_head, merge_or_null, IsStorable, IsWrittenMerge, KeepsMerge, StoredFault}
 use Rattle.ocds_merge.proofs.HeadStep.{compiled_is, with_head_more}
 use Rattle.ocds_merge.proofs.compiled.compiled_text.Goals as goal
 

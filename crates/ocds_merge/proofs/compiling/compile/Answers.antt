@@ -1,10 +1,4 @@
-use Rattle.std.proofs.Common.{◌≡◌, ◌∙◌, ◌-◌, ap, sym, subst, IfOk, map, length, get_or, List, ℕ, Bor}
-use Rattle.std.proofs.lemmas.List.{length-map}
-use Rattle.serde_json.specs.Data.{Data, null}
-use Rattle.serde_json.specs.View.{view}
-use Rattle.serde_json.specs.declared.value.Value.{Value}
-use Rattle.ocds_merge.specs.Merge.{merge_or_null}
-use Rattle.ocds_merge.specs.Compile.{date_of, date_order, with_head, last_date, compiled_release}
+use Rattle.ocds_merge.proofs.Names.{◌≡◌, ◌∙◌, ◌-◌, ap, sym, subst, IfOk, map, length, get_or, List, ℕ, Bor, length-map, Data, null, view, Value, merge_or_null, date_of, date_order, with_head, last_date, compiled_release}
 use Rattle.ocds_merge.proofs.HeadLaw.{head_stands_over}
 use Rattle.ocds_merge.proofs.compiling.compile.Goals as goal
 

@@ -1,10 +1,4 @@
-use Rattle.std.proofs.Common.{◌++◌, ◌∷◌, [], ◌∙◌, ap, sym, map, take, unwrap_or, arith, List, Bor}
-use Rattle.std.proofs.lemmas.List.{take_more, take_all, map-append}
-use Rattle.serde_json.specs.Data.{Data, null}
-use Rattle.serde_json.specs.View.{view}
-use Rattle.serde_json.specs.declared.value.Value.{Value}
-use Rattle.ocds_merge.specs.Merge.{merge_of}
-use Rattle.ocds_merge.specs.Inside.Step.{step}
+use Rattle.ocds_merge.proofs.Names.{◌++◌, ◌∷◌, [], ◌∙◌, ap, sym, map, take, unwrap_or, arith, List, Bor, take_more, take_all, map-append, Data, null, view, Value, merge_of, step}
 use Rattle.ocds_merge.proofs.MergeLaw.{merged_law}
 use Rattle.ocds_merge.proofs.CodeLemmas.{view_or}
 use Rattle.ocds_merge.proofs.compiling.merge_in_order.Goals as goal

@@ -1,6 +1,4 @@
-use Rattle.std.proofs.Common.{refl}
-use Rattle.std.specs.Fmt.{digits}
-use Rattle.serde_json.proofs.OnLiterals.{serde_json_on_literals}
+use Rattle.ocds_merge.proofs.Names.{refl, digits, serde_json_on_literals}
 use Rattle.ocds_merge.proofs.examples.worked_compilations.Goals as goal
 
 pub returns-clause-order : goal.returns-clause-order

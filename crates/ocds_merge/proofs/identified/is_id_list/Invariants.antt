@@ -1,6 +1,4 @@
-use Rattle.std.proofs.Common.{◌≡◌, drop}
-use Rattle.serde_json.specs.View.{items_view}
-use Rattle.ocds_merge.specs.Identified.{all_have_id}
+use Rattle.ocds_merge.proofs.Names.{◌≡◌, drop, items_view, all_have_id}
 use Rattle.ocds_merge.proofs.identified.is_id_list.Given as goal
 
 abbrev pub invariant-loop-item : goal.invariant-loop-item

@@ -1,9 +1,4 @@
-use Rattle.std.proofs.Common.{◌≡◌, ◌<◌, ◌∙◌, ap, sym, subst, map, take, length, get_or, false, arith, bytes_eq, List}
-use Rattle.std.proofs.lemmas.List.{take_more, get_or-map, length-map}
-use Rattle.serde_json.specs.Data.{Data, null}
-use Rattle.serde_json.specs.View.{view}
-use Rattle.ocds_merge.specs.Identified.{id_of}
-use Rattle.ocds_merge.specs.Inside.Step.{Lacks}
+use Rattle.ocds_merge.proofs.Names.{◌≡◌, ◌<◌, ◌∙◌, ap, sym, subst, map, take, length, get_or, false, arith, bytes_eq, List, take_more, get_or-map, length-map, Data, null, view, id_of, Lacks}
 use Rattle.ocds_merge.proofs.CodeLemmas.{lacks_push}
 use Rattle.ocds_merge.proofs.identified.place_of.Goals as goal
 

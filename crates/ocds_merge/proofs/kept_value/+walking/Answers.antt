@@ -1,7 +1,4 @@
-use Rattle.std.proofs.Common.{List, sym, subst}
-use Rattle.serde_json.specs.View.{members_view}
-use Rattle.serde_json.proofs.Views.{Entry}
-use Rattle.ocds_merge.specs.Inside.Splice.{AreMembersKept}
+use Rattle.ocds_merge.proofs.Names.{List, sym, subst, members_view, Entry, AreMembersKept}
 use Rattle.ocds_merge.proofs.CodeLemmas.{sorted_names_of}
 use Rattle.ocds_merge.proofs.KeptLaw.{ordered_names}
 use Rattle.ocds_merge.proofs.kept_value.+walking.Goals as goal

@@ -1,7 +1,4 @@
-use Rattle.std.proofs.Common.{◌≡◌, drop}
-use Rattle.serde_json.specs.View.{items_view, members_view}
-use Rattle.serde_json.specs.Written.{items_have_float, members_have_float}
-use Rattle.ocds_merge.specs.Inside.Splice.{AreItemsKept, AreMembersKept}
+use Rattle.ocds_merge.proofs.Names.{◌≡◌, drop, items_view, members_view, items_have_float, members_have_float, AreItemsKept, AreMembersKept}
 use Rattle.ocds_merge.proofs.kept_value.+walking.Given as goal
 
 abbrev pub invariant-are_items_kept-loop-item : goal.invariant-are_items_kept-loop-item

@@ -1,4 +1,4 @@
-use Rattle.serde_json.specs.Data.{null, boolean, number, string}
+use Rattle.ocds_merge.proofs.Names.{null, boolean, number, string}
 use Rattle.ocds_merge.proofs.KindLaw.{newest, plain_array, at_name, id_list}
 use Rattle.ocds_merge.proofs.laws.last_value_decides.Goals as goal
 

@@ -1,10 +1,4 @@
-use Rattle.std.proofs.Common.{◌≡◌, ◌<◌, ◌∙◌, ℕ, List, sym, subst, ap, map, take, get_or, length, arith}
-use Rattle.std.proofs.lemmas.List.{take_more, get_or-map, length-map}
-use Rattle.serde_json.specs.Data.{Data, null}
-use Rattle.serde_json.specs.View.{view}
-use Rattle.ocds_merge.specs.Identified.{id_of}
-use Rattle.ocds_merge.specs.Inside.Step.{Lacks}
-use Rattle.ocds_merge.specs.Inside.Pending.{HaveDistinctIds}
+use Rattle.ocds_merge.proofs.Names.{◌≡◌, ◌<◌, ◌∙◌, ℕ, List, sym, subst, ap, map, take, get_or, length, arith, take_more, get_or-map, length-map, Data, null, view, id_of, Lacks, HaveDistinctIds}
 use Rattle.ocds_merge.proofs.PendingLaw.{distinct_push}
 use Rattle.ocds_merge.proofs.list_text.distinct_places.Goals as goal
 

@@ -1,6 +1,4 @@
-use Rattle.std.proofs.Common.{map, take}
-use Rattle.serde_json.specs.View.{view}
-use Rattle.ocds_merge.specs.Inside.Pending.{HaveDistinctIds}
+use Rattle.ocds_merge.proofs.Names.{map, take, view, HaveDistinctIds}
 use Rattle.ocds_merge.proofs.list_text.distinct_places.Given as goal
 
 abbrev pub invariant-loop-place : goal.invariant-loop-place

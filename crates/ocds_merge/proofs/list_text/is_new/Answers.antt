@@ -1,5 +1,4 @@
-use Rattle.std.proofs.Common.{map}
-use Rattle.serde_json.specs.View.{view}
+use Rattle.ocds_merge.proofs.Names.{map, view}
 use Rattle.ocds_merge.proofs.PendingLaw.{lacks_take}
 use Rattle.ocds_merge.proofs.list_text.is_new.Goals as goal
 

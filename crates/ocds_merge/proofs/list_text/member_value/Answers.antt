@@ -1,5 +1,4 @@
-use Rattle.std.proofs.Common.{sym, ◌∙◌, true≢false}
-use Rattle.std.proofs.lemmas.Slice.Eq.{bytes_eq-Decides}
+use Rattle.ocds_merge.proofs.Names.{sym, ◌∙◌, true≢false, bytes_eq-Decides}
 use Rattle.ocds_merge.proofs.SpliceLaw.{some_case, after_shorter}
 use Rattle.ocds_merge.proofs.ListTextLaw.{search_one, found_one}
 use Rattle.ocds_merge.proofs.list_text.member_value.Goals as goal

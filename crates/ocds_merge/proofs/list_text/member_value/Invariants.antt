@@ -1,6 +1,4 @@
-use Rattle.std.proofs.Common.{List, ℕ, length}
-use Rattle.serde_json.specs.Data.{Members}
-use Rattle.ocds_merge.specs.Inside.Splice.{StandAt, Searched}
+use Rattle.ocds_merge.proofs.Names.{List, ℕ, length, Members, StandAt, Searched}
 use Rattle.ocds_merge.proofs.list_text.member_value.Given as goal
 
 abbrev pub invariant-loop-member : goal.invariant-loop-member

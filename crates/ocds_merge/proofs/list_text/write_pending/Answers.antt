@@ -1,10 +1,4 @@
-use Rattle.std.proofs.Common.{◌<◌, ◌≤◌, ◌+◌, ◌∙◌, ◌++◌, ◌∷◌, List, false, sym, ap, map, drop, get_or, length, arith}
-use Rattle.std.proofs.lemmas.List.{drop_more, drop_all}
-use Rattle.serde_json.specs.Data.{Items}
-use Rattle.serde_json.specs.View.{view, items_of}
-use Rattle.serde_json.specs.Written.{items_text}
-use Rattle.serde_json.specs.declared.value.Value.{Value}
-use Rattle.ocds_merge.specs.Inside.Pending.{alone, pending}
+use Rattle.ocds_merge.proofs.Names.{◌<◌, ◌≤◌, ◌+◌, ◌∙◌, ◌++◌, ◌∷◌, List, false, sym, ap, map, drop, get_or, length, arith, drop_more, drop_all, Items, view, items_of, items_text, Value, alone, pending}
 use Rattle.ocds_merge.proofs.PendingLaw.{pending_turn, item_kept}
 use Rattle.ocds_merge.proofs.list_text.write_pending.Goals as goal
 

@@ -1,8 +1,4 @@
-use Rattle.std.proofs.Common.{◌≡◌, ◌++◌, map, drop}
-use Rattle.serde_json.specs.View.{view, items_of, items_view}
-use Rattle.serde_json.specs.Written.{items_text}
-use Rattle.ocds_merge.specs.Inside.Splice.{AreItemsKept}
-use Rattle.ocds_merge.specs.Inside.Pending.{alone, pending}
+use Rattle.ocds_merge.proofs.Names.{◌≡◌, ◌++◌, map, drop, view, items_of, items_view, items_text, AreItemsKept, alone, pending}
 use Rattle.ocds_merge.proofs.list_text.write_pending.Given as goal
 
 abbrev pub invariant-loop-place : goal.invariant-loop-place

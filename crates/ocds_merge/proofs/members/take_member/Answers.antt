@@ -1,6 +1,4 @@
-use Rattle.std.proofs.Common.{◌∙◌, ap, option_map}
-use Rattle.serde_json.specs.View.{view, members_view}
-use Rattle.serde_json.proofs.Views.{view-lookup}
+use Rattle.ocds_merge.proofs.Names.{◌∙◌, ap, option_map, view, members_view, view-lookup}
 use Rattle.ocds_merge.proofs.CodeLemmas.{members_view-remove_entry}
 use Rattle.ocds_merge.proofs.members.take_member.Goals as goal
 

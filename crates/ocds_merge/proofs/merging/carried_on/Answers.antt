@@ -1,7 +1,4 @@
-use Rattle.std.proofs.Common.{◌∙◌, ap, sym, unwrap_or}
-use Rattle.serde_json.specs.Data.{null}
-use Rattle.serde_json.specs.View.{view}
-use Rattle.ocds_merge.specs.Inside.Step.{step, not_null}
+use Rattle.ocds_merge.proofs.Names.{◌∙◌, ap, sym, unwrap_or, null, view, step, not_null}
 use Rattle.ocds_merge.proofs.MergeLaw.{merged_law, merged_not_null}
 use Rattle.ocds_merge.proofs.CodeLemmas.{view_or}
 use Rattle.ocds_merge.proofs.merging.carried_on.Goals as goal

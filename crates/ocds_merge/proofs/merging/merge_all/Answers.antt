@@ -1,9 +1,4 @@
-use Rattle.std.proofs.Common.{◌++◌, ◌∷◌, [], ◌∙◌, ap, sym, map, take, unwrap_or, arith}
-use Rattle.std.proofs.lemmas.List.{take_more, take_all, map-append}
-use Rattle.serde_json.specs.Data.{null}
-use Rattle.serde_json.specs.View.{view}
-use Rattle.ocds_merge.specs.Merge.{merge_of}
-use Rattle.ocds_merge.specs.Inside.Step.{step}
+use Rattle.ocds_merge.proofs.Names.{◌++◌, ◌∷◌, [], ◌∙◌, ap, sym, map, take, unwrap_or, arith, take_more, take_all, map-append, null, view, merge_of, step}
 use Rattle.ocds_merge.proofs.MergeLaw.{merged_law}
 use Rattle.ocds_merge.proofs.CodeLemmas.{view_or}
 use Rattle.ocds_merge.proofs.merging.merge_all.Goals as goal

@@ -1,6 +1,4 @@
-use Rattle.std.proofs.Common.{◌≡◌, map, take, option_map}
-use Rattle.serde_json.specs.View.{view}
-use Rattle.ocds_merge.specs.Merge.{merge_of}
+use Rattle.ocds_merge.proofs.Names.{◌≡◌, map, take, option_map, view, merge_of}
 use Rattle.ocds_merge.proofs.merging.merge_all.Given as goal
 
 abbrev pub invariant-loop-value : goal.invariant-loop-value

@@ -1,7 +1,5 @@
-use Rattle.std.proofs.Common.{List, ℕ, length}
-use Rattle.serde_json.specs.Data.{Data, Members}
-use Rattle.ocds_merge.specs.Inside.Readable.{MembersRead}
-use Rattle.ocds_merge.specs.Inside.Splice.{StandAt, AllAbove, Passed}
+use Rattle.ocds_merge.proofs.Names.{List, ℕ, length, Data, Members, MembersRead, StandAt, AllAbove}
+use Rattle.ocds_merge.specs.Inside.Splice.{Passed}
 use Rattle.ocds_merge.proofs.object_text.copy_below.Given as goal
 
 abbrev pub invariant-loop-member : goal.invariant-loop-member

@@ -1,5 +1,5 @@
-use Rattle.std.proofs.Common.{ap, ◌∙◌, sym}
-use Rattle.ocds_merge.specs.Inside.Scan.{scan, between}
+use Rattle.ocds_merge.proofs.Names.{ap, ◌∙◌, sym, scan}
+use Rattle.ocds_merge.specs.Inside.Scan.{between}
 use Rattle.ocds_merge.proofs.PassLaw.{members_scan}
 use Rattle.ocds_merge.proofs.SpliceLaw.{rest_at}
 use Rattle.ocds_merge.proofs.object_text.copy_rest.Goals as goal

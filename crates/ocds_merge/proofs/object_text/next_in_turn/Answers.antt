@@ -1,5 +1,4 @@
-use Rattle.std.proofs.Common.{refl, ap}
-use Rattle.ocds_merge.specs.Inside.Splice.{no_comma}
+use Rattle.ocds_merge.proofs.Names.{refl, ap, no_comma}
 use Rattle.ocds_merge.proofs.PassLaw.{no_comma_at}
 use Rattle.ocds_merge.proofs.object_text.next_in_turn.Goals as goal
 

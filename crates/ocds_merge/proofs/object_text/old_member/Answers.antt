@@ -1,5 +1,4 @@
-use Rattle.std.proofs.Common.{sym, ◌∙◌, true≢false}
-use Rattle.std.proofs.lemmas.Slice.Eq.{bytes_eq-Decides}
+use Rattle.ocds_merge.proofs.Names.{sym, ◌∙◌, true≢false, bytes_eq-Decides}
 use Rattle.ocds_merge.proofs.SpliceLaw.{some_case}
 use Rattle.ocds_merge.proofs.MemberTurn.{value_at, absent_at}
 use Rattle.ocds_merge.proofs.object_text.old_member.Goals as goal

@@ -1,11 +1,4 @@
-use Rattle.std.proofs.Common.{◌≡◌, ◌∙◌, ◌+◌, ◌∷◌, ◌++◌, [], ap, sym, subst, map, take, length, arith, is_some, ℕ, List, Some, cond, bytes_eq}
-use Rattle.std.proofs.lemmas.List.{take_more, map-append, length-map, length-take-le}
-use Rattle.std.specs.BTreeMap.{get_by_text}
-use Rattle.serde_json.specs.Data.{Data}
-use Rattle.serde_json.specs.View.{view}
-use Rattle.serde_json.specs.declared.value.Value.{Value}
-use Rattle.ocds_merge.specs.Identified.{id_of}
-use Rattle.ocds_merge.specs.Inside.Places.{IsIndexOf, place_in}
+use Rattle.ocds_merge.proofs.Names.{◌≡◌, ◌∙◌, ◌+◌, ◌∷◌, ◌++◌, [], ap, sym, subst, map, take, length, arith, is_some, ℕ, List, Some, cond, bytes_eq, take_more, map-append, length-map, length-take-le, get_by_text, Data, view, Value, id_of, IsIndexOf, place_in}
 use Rattle.ocds_merge.proofs.PlaceLaw.{lacks_from, index_push, index_known}
 use Rattle.ocds_merge.proofs.places.index_of.Goals as goal
 use Rattle.ocds_merge.proofs.places.index_of.Goals.{then-not-contains_key+in_ok-put_place, else-not-contains_key}

@@ -1,6 +1,4 @@
-use Rattle.std.proofs.Common.{map, take}
-use Rattle.serde_json.specs.View.{view}
-use Rattle.ocds_merge.specs.Inside.Places.{IsIndexOf}
+use Rattle.ocds_merge.proofs.Names.{map, take, view, IsIndexOf}
 use Rattle.ocds_merge.proofs.places.index_of.Given as goal
 
 abbrev pub invariant-loop-place : goal.invariant-loop-place

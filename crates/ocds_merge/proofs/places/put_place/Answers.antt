@@ -1,6 +1,4 @@
-use Rattle.std.proofs.Common.{◌∙◌, ap, List, ℕ, Some, cond, bytes_eq, string_bytes}
-use Rattle.std.specs.BTreeMap.{get_by_text}
-use Rattle.std.proofs.lemmas.Map.Text.{btree_map_updates_text}
+use Rattle.ocds_merge.proofs.Names.{◌∙◌, ap, List, ℕ, Some, cond, bytes_eq, string_bytes, get_by_text, btree_map_updates_text}
 use Rattle.ocds_merge.proofs.places.put_place.Goals as goal
 
 pub returns : goal.returns

@@ -1,7 +1,5 @@
-use Rattle.std.proofs.Common.{◌∙◌, ◌∷◌, ℕ, List, true, false, refl, ap, arith}
-use Rattle.serde_json.specs.Data.{null, boolean, number, unsigned}
+use Rattle.ocds_merge.proofs.Names.{◌∙◌, ◌∷◌, ℕ, List, true, false, refl, ap, arith, null, boolean, number, unsigned, NextMember}
 use Rattle.ocds_merge.proofs.PassLaw.{string_passed, word_passed, array_passed, object_passed, items_over, members_over, item_read, member_read, members_begun}
-use Rattle.ocds_merge.specs.Inside.Readable.{NextMember}
 use Rattle.ocds_merge.proofs.readable.+passing.Goals as goal
 
 pub passed_items-returns-in-Some : goal.passed_items-returns-in-Some

@@ -1,5 +1,4 @@
-use Rattle.std.proofs.Common.{◌*◌, ◌+◌, false}
-use Rattle.ocds_merge.specs.Inside.Readable.{ItemsRead, MembersRead}
+use Rattle.ocds_merge.proofs.Names.{◌*◌, ◌+◌, false, ItemsRead, MembersRead}
 use Rattle.ocds_merge.proofs.readable.+passing.Given as goal
 
 abbrev pub decreases-passed_value : goal.decreases-passed_value

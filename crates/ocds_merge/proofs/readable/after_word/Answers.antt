@@ -1,6 +1,4 @@
-use Rattle.std.proofs.Common.{◌≡◌, ◌∙◌, ◌++◌, ℕ, List, sym, ap, length, take, drop}
-use Rattle.std.proofs.lemmas.List.{take-append-drop}
-use Rattle.std.proofs.lemmas.Slice.Eq.{bytes_eq-Decides}
+use Rattle.ocds_merge.proofs.Names.{◌≡◌, ◌∙◌, ◌++◌, ℕ, List, sym, ap, length, take, drop, take-append-drop, bytes_eq-Decides}
 use Rattle.ocds_merge.proofs.readable.after_word.Goals as goal
 
 pub returns : goal.returns

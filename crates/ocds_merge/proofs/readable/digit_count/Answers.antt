@@ -1,5 +1,4 @@
-use Rattle.std.proofs.Common.{◌<◌, arith, length}
-use Rattle.std.proofs.lemmas.Int.Digits.{digits_more}
+use Rattle.ocds_merge.proofs.Names.{◌<◌, arith, length, digits_more}
 use Rattle.ocds_merge.proofs.readable.digit_count.Goals as goal
 
 pub loop-at-preserved : goal.loop-at-preserved

@@ -1,5 +1,4 @@
-use Rattle.std.proofs.Common.{take}
-use Rattle.std.specs.Str.Parse.{AllDigits}
+use Rattle.ocds_merge.proofs.Names.{take, AllDigits}
 use Rattle.ocds_merge.proofs.readable.digit_count.Given as goal
 
 abbrev pub invariant-loop-at : goal.invariant-loop-at

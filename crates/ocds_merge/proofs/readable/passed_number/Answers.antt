@@ -1,5 +1,4 @@
-use Rattle.std.proofs.Common.{◌≡◌, ◌-◌, ◌∙◌, ◌++◌, List, ℕ, sym, ap, length, take, drop, decimal, arith}
-use Rattle.std.proofs.lemmas.List.{take_all, length-drop}
+use Rattle.ocds_merge.proofs.Names.{◌≡◌, ◌-◌, ◌∙◌, ◌++◌, List, ℕ, sym, ap, length, take, drop, decimal, arith, take_all, length-drop}
 use Rattle.ocds_merge.proofs.NumberLaw.{number_passed}
 use Rattle.ocds_merge.proofs.readable.passed_number.Goals as goal
 

@@ -1,4 +1,4 @@
-use Rattle.std.proofs.Common.{◌≡◌, ◌∙◌, ◌++◌, ◌∷◌, [], ℕ, List, refl, ap}
+use Rattle.ocds_merge.proofs.Names.{◌≡◌, ◌∙◌, ◌++◌, ◌∷◌, [], ℕ, List, refl, ap}
 use Rattle.ocds_merge.proofs.PlainLaw.{escape_more, escape_stop}
 use Rattle.ocds_merge.proofs.readable.passed_string.Goals as goal
 

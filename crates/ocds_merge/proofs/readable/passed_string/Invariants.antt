@@ -1,5 +1,4 @@
-use Rattle.std.proofs.Common.{◌≡◌, ◌++◌, ℕ, List, length}
-use Rattle.json.specs.Print.{escape}
+use Rattle.ocds_merge.proofs.Names.{◌≡◌, ◌++◌, ℕ, List, length, escape}
 use Rattle.ocds_merge.proofs.readable.passed_string.Given as goal
 
 abbrev pub invariant-loop-first : goal.invariant-loop-first

@@ -1,8 +1,4 @@
-use Rattle.std.proofs.Common.{◌∙◌, ◌∷◌, ◌++◌, [], ap, sym, map, take, arith, List, Bor}
-use Rattle.std.proofs.lemmas.List.{take_more, map-append}
-use Rattle.serde_json.specs.Data.{Data}
-use Rattle.serde_json.specs.View.{view}
-use Rattle.serde_json.specs.declared.value.Value.{Value}
+use Rattle.ocds_merge.proofs.Names.{◌∙◌, ◌∷◌, ◌++◌, [], ap, sym, map, take, arith, List, Bor, take_more, map-append, Data, view, Value}
 use Rattle.ocds_merge.proofs.release_order.borrowed.Goals as goal
 
 pub loop-release-preserved : goal.loop-release-preserved

@@ -1,5 +1,4 @@
-use Rattle.std.proofs.Common.{◌≡◌, map, take}
-use Rattle.serde_json.specs.View.{view}
+use Rattle.ocds_merge.proofs.Names.{◌≡◌, map, take, view}
 use Rattle.ocds_merge.proofs.release_order.borrowed.Given as goal
 
 abbrev pub invariant-loop-release : goal.invariant-loop-release

@@ -1,9 +1,4 @@
-use Rattle.std.proofs.Common.{◌∙◌, ap, Bor, rules}
-use Rattle.std.proofs.lemmas.List.Sorted.{answers_always}
-use Rattle.serde_json.specs.Data.{Data}
-use Rattle.serde_json.specs.View.{view}
-use Rattle.serde_json.specs.declared.value.Value.{Value}
-use Rattle.ocds_merge.specs.Compile.{date_order}
+use Rattle.ocds_merge.proofs.Names.{◌∙◌, ap, Bor, rules, answers_always, Data, view, Value, date_order}
 use Rattle.ocds_merge.proofs.SortLaw.{earlier, ranked, sorted_is_order}
 use Rattle.ocds_merge.proofs.release_order.in_date_order.Goals as goal
 

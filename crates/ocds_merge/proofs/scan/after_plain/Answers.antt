@@ -1,6 +1,4 @@
-use Rattle.std.proofs.Common.{◌<◌, arith, sym, subst, List, ℕ, length, take}
-use Rattle.std.proofs.lemmas.List.{take_more}
-use Rattle.ocds_merge.specs.Inside.Scan.{AllStandForThemselves}
+use Rattle.ocds_merge.proofs.Names.{◌<◌, arith, sym, subst, List, ℕ, length, take, take_more, AllStandForThemselves}
 use Rattle.ocds_merge.proofs.PlainLaw.{all_push}
 use Rattle.ocds_merge.proofs.scan.after_plain.Goals as goal
 

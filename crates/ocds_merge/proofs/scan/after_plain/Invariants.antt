@@ -1,5 +1,4 @@
-use Rattle.std.proofs.Common.{take}
-use Rattle.ocds_merge.specs.Inside.Scan.{AllStandForThemselves}
+use Rattle.ocds_merge.proofs.Names.{take, AllStandForThemselves}
 use Rattle.ocds_merge.proofs.scan.after_plain.Given as goal
 
 abbrev pub invariant-loop-at : goal.invariant-loop-at

@@ -1,5 +1,4 @@
-use Rattle.std.proofs.Common.{◌≡◌, ◌≤◌, ◌∙◌, suc, length, sym, ap, arith}
-use Rattle.ocds_merge.specs.Inside.Scan.{scan, in_string}
+use Rattle.ocds_merge.proofs.Names.{◌≡◌, ◌≤◌, ◌∙◌, suc, length, sym, ap, arith, scan, in_string}
 use Rattle.ocds_merge.proofs.PlainLaw.{plain_scan}
 use Rattle.ocds_merge.proofs.scan.after_string.Goals as goal
 

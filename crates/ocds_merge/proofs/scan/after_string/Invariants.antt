@@ -1,5 +1,4 @@
-use Rattle.std.proofs.Common.{◌≡◌, ◌≤◌, ℕ, length}
-use Rattle.ocds_merge.specs.Inside.Scan.{scan, in_string}
+use Rattle.ocds_merge.proofs.Names.{◌≡◌, ◌≤◌, ℕ, length, scan, in_string}
 use Rattle.ocds_merge.proofs.scan.after_string.Given as goal
 
 abbrev pub invariant-loop-first : goal.invariant-loop-first

@@ -1,5 +1,5 @@
-use Rattle.std.proofs.Common.{◌≡◌, ◌+◌, ◌≤◌, length}
-use Rattle.ocds_merge.specs.Inside.Scan.{scan, between}
+use Rattle.ocds_merge.proofs.Names.{◌≡◌, ◌+◌, ◌≤◌, length, scan}
+use Rattle.ocds_merge.specs.Inside.Scan.{between}
 use Rattle.ocds_merge.proofs.scan.after_value.Given as goal
 
 abbrev pub invariant-loop-first : goal.invariant-loop-first

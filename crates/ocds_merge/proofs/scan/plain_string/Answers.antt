@@ -1,5 +1,4 @@
-use Rattle.std.proofs.Common.{◌≡◌, ◌++◌, ◌∷◌, ◌∙◌, List, ℕ, sym, ap, subst}
-use Rattle.ocds_merge.specs.Inside.Scan.{AllStandForThemselves}
+use Rattle.ocds_merge.proofs.Names.{◌≡◌, ◌++◌, ◌∷◌, ◌∙◌, List, ℕ, sym, ap, subst, AllStandForThemselves}
 use Rattle.ocds_merge.proofs.scan.plain_string.Goals as goal
 
 pub returns : goal.returns

@@ -1,16 +1,5 @@
-use Rattle.std.proofs.Common.{◌≡◌, ◌<◌, ◌∙◌, ◌++◌, ◌∷◌, [], ℕ, List, true, false, sym, subst, ap, map, take, get_or, is_some, length, bytes_eq, arith, refl}
-use Rattle.std.proofs.lemmas.List.{get_or-map, length-map}
-use Rattle.std.proofs.lemmas.Result.{IfOk-weaker}
-use Rattle.serde_json.specs.Data.{null, Members, member, object, array}
-use Rattle.serde_json.specs.View.{view, items_view, members_view}
-use Rattle.serde_json.specs.Written.{compact_text}
-use Rattle.serde_json.specs.declared.value.Value.{Value}
-use Rattle.serde_json.proofs.Views.{Entry, view-Array, view-Object}
-use Rattle.ocds_merge.specs.Identified.{id_of, is_id_list}
-use Rattle.ocds_merge.specs.Inside.Scan.{scan, between}
-use Rattle.ocds_merge.specs.Inside.Step.{Lacks}
-use Rattle.ocds_merge.specs.Inside.Splice.{TextIsKept, Merged}
-use Rattle.ocds_merge.specs.Inside.Pending.{HaveDistinctIds, pending}
+use Rattle.ocds_merge.proofs.Names.{◌≡◌, ◌<◌, ◌∙◌, ◌++◌, ◌∷◌, [], ℕ, List, true, false, sym, subst, ap, map, take, get_or, is_some, length, bytes_eq, arith, refl, get_or-map, length-map, IfOk-weaker, null, Members, member, object, array, view, items_view, members_view, compact_text, Value, Entry, view-Array, view-Object, id_of, is_id_list, scan, Lacks, TextIsKept, Merged, HaveDistinctIds, pending}
+use Rattle.ocds_merge.specs.Inside.Scan.{between}
 use Rattle.ocds_merge.proofs.SpliceLaw.{some_case, none_case, ends_before_members, scan-value}
 use Rattle.ocds_merge.proofs.MemberTurn.{old_kept, past_old, old_passed, null_found, null_absent, some_found, some_absent, merged_none, merged_one, merged_all}
 use Rattle.ocds_merge.proofs.ListTextLaw.{opened, opened_list}

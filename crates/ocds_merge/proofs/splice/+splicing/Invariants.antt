@@ -1,10 +1,4 @@
-use Rattle.std.proofs.Common.{◌≡◌, ◌++◌, ◌∷◌, [], List, ℕ, false, length, map}
-use Rattle.serde_json.specs.Data.{Members, Items, object}
-use Rattle.serde_json.specs.View.{view, items_view, members_view}
-use Rattle.serde_json.specs.Written.{members_text, items_text}
-use Rattle.ocds_merge.specs.Inside.Pending.{pending}
-use Rattle.ocds_merge.specs.Inside.Readable.{ItemsRead, MembersRead}
-use Rattle.ocds_merge.specs.Inside.Splice.{TextIsKept, AreItemsKept, Merged, ItemsMerged}
+use Rattle.ocds_merge.proofs.Names.{◌≡◌, ◌++◌, ◌∷◌, [], List, ℕ, false, length, map, Members, Items, object, view, items_view, members_view, members_text, items_text, pending, ItemsRead, MembersRead, TextIsKept, AreItemsKept, Merged, ItemsMerged}
 use Rattle.ocds_merge.proofs.splice.+splicing.Given as goal
 
 abbrev pub invariant-splice_members-loop-name : goal.invariant-splice_members-loop-name

@@ -1,12 +1,4 @@
-use Rattle.std.proofs.Common.{◌≡◌, ◌<◌, ◌+◌, ◌∙◌, ◌∷◌, ◌++◌, List, [], sym, subst, ap, map, take, drop, set, get_or, length, bytes_eq, true, is_some, ◌&&◌, arith, None, Vec, Global}
-use Rattle.std.proofs.lemmas.List.{length-map}
-use Rattle.serde_json.specs.Data.{Data, null, item}
-use Rattle.serde_json.specs.declared.value.Value.{Value}
-use Rattle.serde_json.specs.View.{view, items_view, members_view}
-use Rattle.ocds_merge.specs.Identified.{id_of, text_id, all_have_id}
-use Rattle.ocds_merge.specs.Inside.Step.{Lacks, step_items}
-use Rattle.ocds_merge.specs.Inside.Places.{IndexServes}
-use Rattle.ocds_merge.specs.Laws.{IsProper, AreItemsProper, AreMembersProper}
+use Rattle.ocds_merge.proofs.Names.{◌≡◌, ◌<◌, ◌+◌, ◌∙◌, ◌∷◌, ◌++◌, List, [], sym, subst, ap, map, take, drop, set, get_or, length, bytes_eq, true, is_some, ◌&&◌, arith, None, Vec, Global, length-map, Data, null, item, Value, view, items_view, members_view, id_of, text_id, all_have_id, Lacks, step_items, IndexServes, IsProper, AreItemsProper, AreMembersProper}
 use Rattle.ocds_merge.proofs.CodeLemmas.{sorted_names_of, dropped, turned, found_turn, lacked_turn}
 use Rattle.ocds_merge.proofs.IdLaw.{first_id, other_ids, new_id}
 use Rattle.ocds_merge.proofs.PlaceLaw.{found_serves, pushed_serves}

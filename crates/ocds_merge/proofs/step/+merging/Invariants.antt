@@ -1,9 +1,4 @@
-use Rattle.std.proofs.Common.{◌≡◌, drop, map, true}
-use Rattle.serde_json.specs.View.{view, items_view, members_view}
-use Rattle.ocds_merge.specs.Identified.{all_have_id}
-use Rattle.ocds_merge.specs.Inside.Step.{step_items, step_members}
-use Rattle.ocds_merge.specs.Inside.Places.{IndexServes}
-use Rattle.ocds_merge.specs.Laws.{AreItemsProper, AreMembersProper}
+use Rattle.ocds_merge.proofs.Names.{◌≡◌, drop, map, true, view, items_view, members_view, all_have_id, step_items, step_members, IndexServes, AreItemsProper, AreMembersProper}
 use Rattle.ocds_merge.proofs.step.+merging.Given as goal
 
 abbrev pub invariant-merge_items-loop-item : goal.invariant-merge_items-loop-item

@@ -1,7 +1,4 @@
-use Rattle.std.proofs.Common.{◌≡◌, ◌∙◌, ap, sym, map, true}
-use Rattle.serde_json.specs.View.{view, items_view}
-use Rattle.ocds_merge.specs.Identified.{is_id_list}
-use Rattle.serde_json.proofs.Views.{view-Array}
+use Rattle.ocds_merge.proofs.Names.{◌≡◌, ◌∙◌, ap, sym, map, true, view, items_view, is_id_list, view-Array}
 use Rattle.ocds_merge.proofs.MergeLaw.{items_list-items_of}
 use Rattle.ocds_merge.proofs.step.id_list_of.Goals as goal
 

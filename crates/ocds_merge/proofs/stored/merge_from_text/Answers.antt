@@ -1,7 +1,4 @@
-use Rattle.std.proofs.Common.{◌≡◌, ◌∙◌, [], Some, ap, sym}
-use Rattle.serde_json.specs.Data.{Data}
-use Rattle.serde_json.specs.Read.{read}
-use Rattle.serde_json.proofs.OnLiterals.{serde_json_on_literals}
+use Rattle.ocds_merge.proofs.Names.{◌≡◌, ◌∙◌, [], Some, ap, sym, Data, read, serde_json_on_literals}
 use Rattle.ocds_merge.proofs.stored.merge_from_text.Goals as goal
 
 -- an empty text is no JSON

@@ -1,8 +1,4 @@
-use Rattle.std.proofs.Common.{◌≡◌, ◌≤◌, ◌∙◌, Some, false, sym, ap, subst}
-use Rattle.serde_json.specs.Data.{Data, depth}
-use Rattle.serde_json.specs.Read.{max_depth}
-use Rattle.serde_json.specs.Written.{compact_text, has_float}
-use Rattle.serde_json.specs.View.{view}
+use Rattle.ocds_merge.proofs.Names.{◌≡◌, ◌≤◌, ◌∙◌, Some, false, sym, ap, subst, Data, depth, max_depth, compact_text, has_float, view}
 use Rattle.ocds_merge.proofs.StorableLaw.{merge_shallow, merge_no_float}
 use Rattle.ocds_merge.proofs.stored.merge_to_text.Goals as goal
 

@@ -1,5 +1,4 @@
-use Rattle.std.proofs.Common.{ap, sym, ◌∙◌, unwrap_or, Option}
-use Rattle.serde_json.specs.Data.{Data, null}
+use Rattle.ocds_merge.proofs.Names.{ap, sym, ◌∙◌, unwrap_or, Option, Data, null}
 use Rattle.ocds_merge.proofs.stored.merged_anew.Goals as goal
 
 pub returns-clause-keeps : goal.returns-clause-keeps

@@ -1,8 +1,4 @@
-use Rattle.std.proofs.Common.{◌≡◌, ◌==◌, ap, sym, subst, ◌∙◌, ℕ, List, [], Bool, false, length, true≢false, Vec, Global, string_bytes}
-use Rattle.serde_json.specs.Read.{read}
-use Rattle.serde_json.specs.View.{view}
-use Rattle.ocds_merge.specs.Merge.{merge_or_null}
-use Rattle.ocds_merge.specs.Inside.Readable.{Reads}
+use Rattle.ocds_merge.proofs.Names.{◌≡◌, ◌==◌, ap, sym, subst, ◌∙◌, ℕ, List, [], Bool, false, length, true≢false, Vec, Global, string_bytes, read, view, merge_or_null, Reads}
 use Rattle.ocds_merge.proofs.TextLaw.{merge_kept, keeps_more, text_of_read}
 use Rattle.ocds_merge.proofs.stored.spliced.Goals as goal
 

@@ -1,8 +1,4 @@
-use Rattle.std.proofs.Common.{List, ℕ, [], ◌++◌, refl, ap, sym, ◌∙◌, append-nil, unwrap_or, Some}
-use Rattle.serde_json.specs.Data.{null}
-use Rattle.serde_json.specs.View.{view}
-use Rattle.ocds_merge.specs.Inside.Step.{step}
-use Rattle.serde_json.specs.Written.{compact_text}
+use Rattle.ocds_merge.proofs.Names.{List, ℕ, [], ◌++◌, refl, ap, sym, ◌∙◌, append-nil, unwrap_or, Some, null, view, step, compact_text}
 use Rattle.ocds_merge.proofs.ReadWritten.{passed_reads}
 use Rattle.ocds_merge.proofs.stored.spliced_bytes.Goals as goal
 

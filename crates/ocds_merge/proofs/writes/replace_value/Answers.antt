@@ -1,5 +1,5 @@
-use Rattle.std.proofs.Common.{ap, ◌∙◌}
-use Rattle.ocds_merge.specs.Inside.Scan.{scan, between}
+use Rattle.ocds_merge.proofs.Names.{ap, ◌∙◌, scan}
+use Rattle.ocds_merge.specs.Inside.Scan.{between}
 use Rattle.ocds_merge.proofs.SpliceLaw.{scan-value}
 use Rattle.ocds_merge.proofs.writes.replace_value.Goals as goal
 

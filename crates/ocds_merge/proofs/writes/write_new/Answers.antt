@@ -1,8 +1,4 @@
-use Rattle.std.proofs.Common.{◌≡◌, ◌++◌, ◌∙◌, ap, unwrap_or, None, Option}
-use Rattle.serde_json.specs.Data.{Data, null}
-use Rattle.serde_json.specs.View.{view}
-use Rattle.serde_json.specs.Written.{compact_text, has_float}
-use Rattle.ocds_merge.specs.Inside.Step.{step}
+use Rattle.ocds_merge.proofs.Names.{◌≡◌, ◌++◌, ◌∙◌, ap, unwrap_or, None, Option, Data, null, view, compact_text, has_float, step}
 use Rattle.ocds_merge.proofs.CodeLemmas.{view_or}
 use Rattle.ocds_merge.proofs.SpliceLaw.{new_plain}
 use Rattle.ocds_merge.proofs.KeptLaw.{kept_plain, kept_proper}

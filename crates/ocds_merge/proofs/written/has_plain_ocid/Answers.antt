@@ -1,5 +1,4 @@
-use Rattle.std.proofs.Common.{ℕ, List, Some, codes, sym, ap, ◌∙◌}
-use Rattle.std.proofs.lemmas.Slice.Eq.{bytes_eq-Decides}
+use Rattle.ocds_merge.proofs.Names.{ℕ, List, Some, codes, sym, ap, ◌∙◌, bytes_eq-Decides}
 use Rattle.ocds_merge.proofs.ReadWritten.{member_read}
 use Rattle.ocds_merge.proofs.written.has_plain_ocid.Goals as goal
 

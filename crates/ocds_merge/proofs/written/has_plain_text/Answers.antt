@@ -1,5 +1,4 @@
-use Rattle.std.proofs.Common.{ℕ, List, Option, Some, sym, subst, ◌∙◌}
-use Rattle.std.specs.Prelude.{IsTrue, is_some}
+use Rattle.ocds_merge.proofs.Names.{ℕ, List, Option, sym, subst, ◌∙◌, IsTrue, is_some}
 use Rattle.ocds_merge.proofs.ReadWritten.{member_read}
 use Rattle.ocds_merge.proofs.written.has_plain_text.Goals as goal
 

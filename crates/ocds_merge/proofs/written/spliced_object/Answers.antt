@@ -1,4 +1,4 @@
-use Rattle.std.proofs.Common.{sym, ◌∙◌}
+use Rattle.ocds_merge.proofs.Names.{sym, ◌∙◌}
 use Rattle.ocds_merge.proofs.ReadWritten.{reads_written}
 use Rattle.ocds_merge.proofs.written.spliced_object.Goals as goal
 

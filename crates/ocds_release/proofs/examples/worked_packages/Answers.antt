@@ -1,7 +1,4 @@
-use Rattle.std.proofs.Common.{refl}
-use Rattle.std.specs.Fmt.{digits}
-use Rattle.serde_json.proofs.OnLiterals.{serde_json_on_literals}
-use Rattle.office_values.specs.Moments.{moment_text, year_after, month_after}
+use Rattle.ocds_release.proofs.Names.{refl, digits, serde_json_on_literals, moment_text, year_after, month_after}
 use Rattle.ocds_release.proofs.examples.worked_packages.Goals as goal
 
 pub returns-clause-first : goal.returns-clause-first

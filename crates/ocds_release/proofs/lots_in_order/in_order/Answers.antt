@@ -1,11 +1,4 @@
-use Rattle.std.proofs.Common.{◌≡◌, ◌<◌, ◌≤◌, ◌+◌, ◌-◌, ◌∷◌, [], ◌∙◌, ap, sym, subst, map, take, drop, length, get_or, false, arith, List, ℕ, Bor}
-use Rattle.std.proofs.lemmas.List.{drop_more, length-map}
-use Rattle.std.specs.Ordering.{is_lt}
-use Rattle.office_values.specs.Ids.{id_cmp}
-use Rattle.office_commands.specs.Lots.{lot_id}
-use Rattle.office_commands.specs.declared.lot.NewLot.{NewLot}
-use Rattle.ocds_release.specs.LotsInOrder.{lots_in_order, insert_by_id}
-use Rattle.ocds_release.specs.Inside.Earlier.{AreEarlier}
+use Rattle.ocds_release.proofs.Names.{◌≡◌, ◌<◌, ◌≤◌, ◌+◌, ◌-◌, ◌∷◌, [], ◌∙◌, ap, sym, subst, map, take, drop, length, get_or, false, arith, List, ℕ, Bor, drop_more, length-map, is_lt, id_cmp, lot_id, NewLot, lots_in_order, insert_by_id, AreEarlier}
 use Rattle.ocds_release.proofs.LotOrder.{insert_is, map_insert, ids_twice}
 use Rattle.ocds_release.proofs.lots_in_order.in_order.Goals as goal
 

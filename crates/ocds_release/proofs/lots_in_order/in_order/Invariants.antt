@@ -1,5 +1,4 @@
-use Rattle.std.proofs.Common.{◌≡◌, ◌≤◌, map, drop, length}
-use Rattle.ocds_release.specs.LotsInOrder.{lots_in_order}
+use Rattle.ocds_release.proofs.Names.{◌≡◌, ◌≤◌, map, drop, length, lots_in_order}
 use Rattle.ocds_release.proofs.lots_in_order.in_order.Given as goal
 
 abbrev pub invariant-loop-left : goal.invariant-loop-left

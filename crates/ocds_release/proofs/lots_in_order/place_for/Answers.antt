@@ -1,9 +1,4 @@
-use Rattle.std.proofs.Common.{◌≡◌, ◌<◌, ◌∙◌, ap, sym, subst, map, take, length, get_or, true, [], arith, List, ℕ, Bor}
-use Rattle.std.proofs.lemmas.List.{take_more, get_or-map, length-map}
-use Rattle.std.specs.Ordering.{is_lt}
-use Rattle.office_values.specs.Ids.{id_cmp}
-use Rattle.office_commands.specs.declared.lot.NewLot.{NewLot}
-use Rattle.ocds_release.specs.Inside.Earlier.{AreEarlier}
+use Rattle.ocds_release.proofs.Names.{◌≡◌, ◌<◌, ◌∙◌, ap, sym, subst, map, take, length, get_or, true, [], arith, List, ℕ, Bor, take_more, get_or-map, length-map, is_lt, id_cmp, NewLot, AreEarlier}
 use Rattle.ocds_release.proofs.LotOrder.{earlier_push}
 use Rattle.ocds_release.proofs.lots_in_order.place_for.Goals as goal
 

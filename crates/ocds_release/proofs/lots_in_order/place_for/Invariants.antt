@@ -1,5 +1,4 @@
-use Rattle.std.proofs.Common.{map, take}
-use Rattle.ocds_release.specs.Inside.Earlier.{AreEarlier}
+use Rattle.ocds_release.proofs.Names.{map, take, AreEarlier}
 use Rattle.ocds_release.proofs.lots_in_order.place_for.Given as goal
 
 abbrev pub invariant-loop-place : goal.invariant-loop-place

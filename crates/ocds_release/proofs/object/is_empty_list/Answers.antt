@@ -1,7 +1,4 @@
-use Rattle.std.proofs.Common.{◌∙◌, ap, sym}
-use Rattle.serde_json.specs.View.{view}
-use Rattle.serde_json.proofs.Views.{view-Array}
-use Rattle.ocds_release.specs.Objects.{is_empty_list}
+use Rattle.ocds_release.proofs.Names.{◌∙◌, ap, sym, view, view-Array, is_empty_list}
 use Rattle.ocds_release.proofs.EmptyLists.{is_empty_vec}
 use Rattle.ocds_release.proofs.object.is_empty_list.Goals as goal
 

@@ -1,6 +1,4 @@
-use Rattle.std.proofs.Common.{◌≡◌, ◌∙◌, ℕ, List, ◌∷◌, ◌++◌, sym, subst, append-nil}
-use Rattle.std.specs.Prelude.{IfOk, string_bytes}
-use Rattle.ocds_release.specs.Texts.{ocid_text}
+use Rattle.ocds_release.proofs.Names.{◌≡◌, ◌∙◌, ℕ, List, ◌∷◌, ◌++◌, sym, subst, append-nil, IfOk, string_bytes, ocid_text}
 use Rattle.ocds_release.proofs.ocid.ocid_of.Goals as goal
 
 pub returns : goal.returns

@@ -1,8 +1,5 @@
-use Rattle.std.proofs.Common.{◌≡◌, ◌∙◌, ◌++◌, ◌∷◌, [], ℕ, List, ap, true, false}
-use Rattle.serde_json.specs.Data.{Members, member}
-use Rattle.serde_json.specs.Written.{members_text}
-use Rattle.office_values.specs.Moments.{moment_text}
-use Rattle.ocds_release.specs.Inside.Splicing.{head_members, tail_members}
+use Rattle.ocds_release.proofs.Names.{◌≡◌, ◌∙◌, ◌++◌, ◌∷◌, [], ℕ, List, ap, true, false, Members, member, members_text, moment_text, tail_members}
+use Rattle.ocds_release.specs.Inside.Splicing.{head_members}
 use Rattle.ocds_release.proofs.PackageTexts.{opened}
 use Rattle.ocds_release.proofs.package_texts.before_list.Goals as goal
 

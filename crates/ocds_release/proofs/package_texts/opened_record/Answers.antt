@@ -1,15 +1,4 @@
-use Rattle.std.proofs.Common.{◌≡◌, ◌∙◌, ◌++◌, ◌∷◌, [], ℕ, List, ap, sym, refl, codes, false, true}
-use Rattle.std.proofs.lemmas.List.{append_assoc}
-use Rattle.serde_json.specs.Data.{Data, object, no_members, no_items, member}
-use Rattle.serde_json.specs.View.{items_of}
-use Rattle.serde_json.specs.Written.{compact_text, items_text, members_text}
-use Rattle.office_values.specs.Moments.{moment_text}
-use Rattle.ocds_merge.specs.Compile.{last_date}
-use Rattle.ocds_release.specs.Objects.{text, array_of}
-use Rattle.ocds_release.specs.Texts.{address, ocid_text}
-use Rattle.ocds_release.specs.Packages.{package_of, record_of}
-use Rattle.ocds_release.specs.Inside.Splicing.{ordered_record, tail_members}
-use Rattle.ocds_release.specs.Opened.{completed, spliced}
+use Rattle.ocds_release.proofs.Names.{◌≡◌, ◌∙◌, ◌++◌, ◌∷◌, [], ℕ, List, ap, sym, refl, codes, false, true, append_assoc, Data, object, no_members, no_items, member, items_of, compact_text, items_text, members_text, moment_text, last_date, text, array_of, address, ocid_text, package_of, record_of, ordered_record, tail_members, completed, spliced}
 use Rattle.ocds_release.proofs.PackageTexts.{kept_list, kept_last, records_in_order, record_in_order}
 use Rattle.ocds_release.proofs.package_texts.opened_record.Goals as goal
 

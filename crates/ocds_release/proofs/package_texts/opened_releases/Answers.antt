@@ -1,15 +1,4 @@
-use Rattle.std.proofs.Common.{◌≡◌, ◌∙◌, ◌++◌, ◌∷◌, [], ℕ, List, ap, sym, refl, codes, true, false}
-use Rattle.std.proofs.lemmas.List.{append_assoc}
-use Rattle.serde_json.specs.Data.{object, no_members, member}
-use Rattle.serde_json.specs.View.{items_of}
-use Rattle.serde_json.specs.Written.{compact_text, items_text, members_text}
-use Rattle.office_values.specs.Moments.{moment_text}
-use Rattle.ocds_merge.specs.Compile.{last_date}
-use Rattle.ocds_release.specs.Objects.{text, array_of}
-use Rattle.ocds_release.specs.Texts.{address}
-use Rattle.ocds_release.specs.Packages.{package_of}
-use Rattle.ocds_release.specs.Inside.Splicing.{tail_members}
-use Rattle.ocds_release.specs.Opened.{completed, spliced}
+use Rattle.ocds_release.proofs.Names.{◌≡◌, ◌∙◌, ◌++◌, ◌∷◌, [], ℕ, List, ap, sym, refl, codes, true, false, append_assoc, object, no_members, member, items_of, compact_text, items_text, members_text, moment_text, last_date, text, array_of, address, package_of, tail_members, completed, spliced}
 use Rattle.ocds_release.proofs.PackageTexts.{kept_list, kept_last, releases_in_order}
 use Rattle.ocds_release.proofs.package_texts.opened_releases.Goals as goal
 

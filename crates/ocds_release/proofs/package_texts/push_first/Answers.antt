@@ -1,9 +1,4 @@
-use Rattle.std.proofs.Common.{◌≡◌, ◌<◌, ◌∙◌, ◌++◌, ◌==◌, ℕ, List, ap, sym, length, codes, true, false}
-use Rattle.serde_json.specs.Data.{Data, Members, member}
-use Rattle.serde_json.specs.View.{view}
-use Rattle.serde_json.specs.Written.{members_text, has_float}
-use Rattle.office_values.specs.Moments.{moment_text}
-use Rattle.ocds_release.specs.Objects.{text, texts}
+use Rattle.ocds_release.proofs.Names.{◌≡◌, ◌<◌, ◌∙◌, ◌++◌, ◌==◌, ℕ, List, ap, sym, length, codes, true, false, Data, Members, member, view, members_text, has_float, moment_text, text, texts}
 use Rattle.ocds_release.proofs.PackageTexts.{pushed, lines_no_float, empty_none, empty_some, extensions_none, extensions_some}
 use Rattle.ocds_release.proofs.package_texts.push_first.Goals as goal
 

@@ -1,9 +1,4 @@
-use Rattle.std.proofs.Common.{◌≡◌, ◌∙◌, ◌++◌, ℕ, List, [], ◌∷◌, ap, codes, true, false}
-use Rattle.serde_json.specs.Data.{Data, member}
-use Rattle.serde_json.specs.View.{view}
-use Rattle.serde_json.specs.Written.{members_text, has_float}
-use Rattle.ocds_release.specs.Objects.{text, object_of}
-use Rattle.ocds_release.specs.Inside.Splicing.{publisher_object}
+use Rattle.ocds_release.proofs.Names.{◌≡◌, ◌∙◌, ◌++◌, ℕ, List, [], ◌∷◌, ap, codes, true, false, Data, member, view, members_text, has_float, text, object_of, publisher_object}
 use Rattle.ocds_release.proofs.PackageTexts.{pushed}
 use Rattle.ocds_release.proofs.package_texts.push_head.Goals as goal
 

@@ -1,7 +1,4 @@
-use Rattle.std.proofs.Common.{◌∙◌, ap, ◌++◌}
-use Rattle.serde_json.specs.Data.{Data}
-use Rattle.serde_json.specs.Written.{compact_text, has_float}
-use Rattle.ocds_release.specs.Inside.Splicing.{member_text}
+use Rattle.ocds_release.proofs.Names.{◌∙◌, ap, ◌++◌, Data, compact_text, has_float, member_text}
 use Rattle.ocds_release.proofs.PackageTexts.{part_no_float}
 use Rattle.ocds_release.proofs.package_texts.push_part.Goals as goal
 

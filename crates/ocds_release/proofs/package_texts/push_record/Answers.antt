@@ -1,9 +1,4 @@
-use Rattle.std.proofs.Common.{◌≡◌, ◌∙◌, ◌++◌, ◌∷◌, [], ℕ, List, ap, codes, true, false}
-use Rattle.serde_json.specs.Data.{member, no_members}
-use Rattle.serde_json.specs.Written.{compact_text, members_text}
-use Rattle.ocds_release.specs.Objects.{text}
-use Rattle.ocds_release.specs.Texts.{ocid_text}
-use Rattle.ocds_release.specs.Inside.Splicing.{member_text}
+use Rattle.ocds_release.proofs.Names.{◌≡◌, ◌∙◌, ◌++◌, ◌∷◌, [], ℕ, List, ap, codes, true, false, member, no_members, compact_text, members_text, text, ocid_text, member_text}
 use Rattle.ocds_release.proofs.PackageTexts.{opened, pushed, before_rest}
 use Rattle.ocds_release.proofs.package_texts.push_record.Goals as goal
 

@@ -1,5 +1,4 @@
-use Rattle.std.proofs.Common.{◌≡◌, map, take}
-use Rattle.serde_json.specs.View.{view}
+use Rattle.ocds_release.proofs.Names.{◌≡◌, map, take, view}
 use Rattle.ocds_release.proofs.packages.copies.Given as goal
 
 abbrev pub invariant-loop-value : goal.invariant-loop-value

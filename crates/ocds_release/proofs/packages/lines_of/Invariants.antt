@@ -1,6 +1,4 @@
-use Rattle.std.proofs.Common.{◌≡◌, map, take}
-use Rattle.serde_json.specs.View.{view}
-use Rattle.ocds_release.specs.Objects.{text}
+use Rattle.ocds_release.proofs.Names.{◌≡◌, map, take, view, text}
 use Rattle.ocds_release.proofs.packages.lines_of.Given as goal
 
 abbrev pub invariant-loop-line : goal.invariant-loop-line

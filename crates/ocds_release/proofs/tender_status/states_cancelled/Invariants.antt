@@ -1,5 +1,4 @@
-use Rattle.std.proofs.Common.{◌≡◌, map, take}
-use Rattle.ocds_release.specs.TenderStatuses.{state_cancelled}
+use Rattle.ocds_release.proofs.Names.{◌≡◌, map, take, state_cancelled}
 use Rattle.ocds_release.proofs.tender_status.states_cancelled.Given as goal
 
 abbrev pub invariant-loop-row : goal.invariant-loop-row

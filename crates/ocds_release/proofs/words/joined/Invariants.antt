@@ -1,5 +1,4 @@
-use Rattle.std.proofs.Common.{◌≡◌, ◌++◌, drop, string_bytes}
-use Rattle.ocds_release.specs.Inside.Words.{joined}
+use Rattle.ocds_release.proofs.Names.{◌≡◌, ◌++◌, drop, string_bytes, joined}
 use Rattle.ocds_release.proofs.words.joined.Given as goal
 
 abbrev pub invariant-loop-word : goal.invariant-loop-word

@@ -1,4 +1,4 @@
-use Rattle.std.proofs.Common.{refl}
+use Rattle.office_base.proofs.Names.{refl}
 use Rattle.office_base.proofs.examples.worked_pots.Goals as goal
 
 pub returns : goal.returns

@@ -1,5 +1,4 @@
-use Rattle.std.proofs.Common.{sym, arith, length-take-le, take_all}
-use Rattle.office_base.specs.Limits.{page_limit}
+use Rattle.office_base.proofs.Names.{sym, arith, length-take-le, take_all, page_limit}
 use Rattle.office_base.proofs.pages.page_of.Goals as goal
 
 -- `take` with a literal number computes element by element, so no lemma matches the goal, and this answer proves it

@@ -1,6 +1,4 @@
-use Rattle.std.proofs.Common.{◌≡◌, ◌+◌, ◌-◌, ◌≤◌, ◌^◌, min, drop}
-use Rattle.office_base.specs.Sums.{sum_over}
-use Rattle.office_base.specs.LineSums.{paid_in}
+use Rattle.office_base.proofs.Names.{◌≡◌, ◌+◌, ◌-◌, ◌≤◌, ◌^◌, min, drop, sum_over, paid_in}
 use Rattle.office_base.proofs.pots.paid_of.Given as goal
 
 -- the sum so far and the remaining amounts are the whole sum, unless it stopped at 2^128 - 1

@@ -1,6 +1,4 @@
-use Rattle.std.proofs.Common.{◌≡◌, true, arith}
-use Rattle.std.specs.List.{list_all}
-use Rattle.office_base.specs.LineSums.{is_within}
+use Rattle.office_base.proofs.Names.{◌≡◌, true, arith, list_all, is_within}
 use Rattle.office_base.proofs.WithinTests.{all_within, within_all}
 use Rattle.office_base.proofs.pots.pots_over.Goals as goal
 

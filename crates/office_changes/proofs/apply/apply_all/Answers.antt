@@ -1,10 +1,4 @@
-use Rattle.std.proofs.Common.{rules, arith, ◌≡◌, OnOk, IfErr, refl, subst, IsTrue}
-use Rattle.sqlite.specs.Held.{state}
-use Rattle.sqlite.specs.State.{HasCleanDisk, Survives}
-use Rattle.sqlite.proofs.StateLemmas.{survives_then}
-use Rattle.sqlite.proofs.Callers.{survives_begin}
-use Rattle.office_tables.specs.Steps.{Applied, Refused, LeavesPuts}
-use Rattle.office_tables.specs.Failing.{IsExcused, ChangeFails}
+use Rattle.office_changes.proofs.Names.{rules, arith, ◌≡◌, OnOk, IfErr, refl, subst, IsTrue, state, HasCleanDisk, Survives, survives_then, survives_begin, Applied, Refused, LeavesPuts, IsExcused, ChangeFails}
 use Rattle.office_changes.proofs.Steps.{rolled, put_leaves, applies, on_err, on_ok_with, begun_refused}
 use Rattle.office_changes.proofs.Failing.{if_err_with, same_err, undone_fails, commit_fails}
 use Rattle.office_changes.proofs.apply.apply_all.Goals as goal

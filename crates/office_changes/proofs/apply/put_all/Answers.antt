@@ -1,10 +1,4 @@
-use Rattle.std.proofs.Common.{rules, arith, ◌≡◌, [], ◌∷◌, ◌++◌, ◌+◌, drop, length, append_assoc, ap, sym, subst, ◌∙◌}
-use Rattle.std.proofs.lemmas.List.{drop_more, nil_from_length}
-use Rattle.std.specs.Prelude.{IfErr}
-use Rattle.sqlite.specs.Held.{state}
-use Rattle.sqlite.specs.State.{HasCleanDisk}
-use Rattle.sqlite.proofs.StateLemmas.{survives_then}
-use Rattle.office_tables.specs.Failing.{IsExcused, StoreFails}
+use Rattle.office_changes.proofs.Names.{rules, arith, ◌≡◌, [], ◌∷◌, ◌++◌, ◌+◌, drop, length, append_assoc, ap, sym, subst, ◌∙◌, drop_more, nil_from_length, IfErr, state, HasCleanDisk, survives_then, IsExcused, StoreFails}
 use Rattle.office_changes.proofs.Steps.{puts_push}
 use Rattle.office_changes.proofs.Failing.{same_err, excused_with, fails_early, fails_later}
 use Rattle.office_changes.proofs.apply.put_all.Goals as goal

@@ -1,8 +1,4 @@
-use Rattle.std.proofs.Common.{◌≡◌, List, ◌++◌, drop}
-use Rattle.sqlite.specs.Held.{state}
-use Rattle.sqlite.specs.State.{HasCleanDisk, Survives}
-use Rattle.office_base.specs.declared.puts.Put.{Put}
-use Rattle.office_tables.specs.Steps.{Puts}
+use Rattle.office_changes.proofs.Names.{◌≡◌, List, ◌++◌, drop, state, HasCleanDisk, Survives, Put, Puts}
 use Rattle.office_changes.proofs.apply.put_all.Given as goal
 
 abbrev pub invariant-puts : goal.invariant-puts

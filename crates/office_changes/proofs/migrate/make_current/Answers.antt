@@ -1,10 +1,4 @@
-use Rattle.std.proofs.Common.{arith, map}
-use Rattle.sqlite.specs.Held.{state}
-use Rattle.sqlite.specs.State.{HasCleanDisk}
-use Rattle.office_base.specs.declared.records.NoticeRow.{NoticeRow}
-use Rattle.office_tables.specs.Statements.{beginning, notice_put}
-use Rattle.office_tables.specs.declared.tables.notices.FormerNotice.{FormerNotice}
-use Rattle.office_tables.proofs.Statements.{fails_early, fails_later, run_then}
+use Rattle.office_changes.proofs.Names.{arith, map, state, HasCleanDisk, NoticeRow, beginning, notice_put, FormerNotice, fails_early, fails_later, run_then}
 use Rattle.office_changes.proofs.Failing.{if_err_with, same_err}
 use Rattle.office_changes.proofs.Migrating.{becomes}
 use Rattle.office_changes.proofs.Steps.{goes_refused, on_ok_with, on_err_with}

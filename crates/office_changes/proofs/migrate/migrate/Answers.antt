@@ -1,12 +1,4 @@
-use Rattle.std.proofs.Common.{rules, arith, ◌≡◌, inl, inr, IfErr, OnOk, map, subst, IsTrue}
-use Rattle.sqlite.specs.Held.{state}
-use Rattle.sqlite.specs.State.{HasCleanDisk, Survives}
-use Rattle.sqlite.proofs.StateLemmas.{survives_then}
-use Rattle.sqlite.proofs.Callers.{survives_begin}
-use Rattle.office_tables.specs.declared.tables.notices.FormerNotice.{FormerNotice}
-use Rattle.office_tables.specs.Steps.{Refused}
-use Rattle.office_base.specs.declared.records.NoticeRow.{NoticeRow}
-use Rattle.office_changes.specs.Migration.{LeavesCurrent, Migrates, MigrationFails}
+use Rattle.office_changes.proofs.Names.{rules, arith, ◌≡◌, inl, inr, IfErr, OnOk, map, subst, IsTrue, state, HasCleanDisk, Survives, survives_then, survives_begin, FormerNotice, Refused, NoticeRow, LeavesCurrent, Migrates, MigrationFails}
 use Rattle.office_changes.proofs.Failing.{if_err_with, same_err}
 use Rattle.office_changes.proofs.Migrating.{migrates, migrate_leaves}
 use Rattle.office_changes.proofs.Steps.{rolled, on_err, on_ok_with, begun_refused}

@@ -1,15 +1,5 @@
-use Rattle.std.proofs.Common.{rules, arith, ◌≡◌, List, [], ◌∷◌, ◌++◌, ◌+◌, drop, take, map, ap, sym, subst, ◌∙◌}
-use Rattle.std.proofs.lemmas.List.{drop_more, map-append, take-append-drop, take_all, take_more}
-use Rattle.sqlite.specs.Held.{state}
-use Rattle.sqlite.specs.State.{HasCleanDisk}
-use Rattle.sqlite.proofs.StateLemmas.{survives_then}
-use Rattle.office_base.specs.declared.puts.Put.{Put}
+use Rattle.office_changes.proofs.Names.{rules, arith, ◌≡◌, List, [], ◌∷◌, ◌++◌, ◌+◌, drop, take, map, ap, sym, subst, ◌∙◌, drop_more, map-append, take-append-drop, take_all, take_more, state, HasCleanDisk, survives_then, Put, FormerNotice, NoticeRow, OneFails, RunAll, Statement, notice_put, Puts, fails_early, fails_later, fails_unready, run_then}
 use Rattle.office_base.specs.declared.puts.Put.TheVariants as puts
-use Rattle.office_tables.specs.declared.tables.notices.FormerNotice.{FormerNotice}
-use Rattle.office_base.specs.declared.records.NoticeRow.{NoticeRow}
-use Rattle.office_tables.specs.Statements.{OneFails, RunAll, Statement, notice_put}
-use Rattle.office_tables.specs.Steps.{Puts}
-use Rattle.office_tables.proofs.Statements.{fails_early, fails_later, fails_unready, run_then}
 use Rattle.office_changes.proofs.Failing.{same_err}
 use Rattle.office_changes.proofs.Steps.{puts_push, refused_then, on_err}
 use Rattle.office_changes.proofs.migrate.put_notices.Goals as goal

@@ -1,10 +1,5 @@
-use Rattle.std.proofs.Common.{◌≡◌, take, map, IsTrue}
-use Rattle.sqlite.specs.Held.{state}
-use Rattle.sqlite.specs.State.{HasCleanDisk, Survives}
+use Rattle.office_changes.proofs.Names.{◌≡◌, take, map, IsTrue, state, HasCleanDisk, Survives, FormerNotice, RunAll, notice_put, Puts}
 use Rattle.office_base.specs.declared.puts.Put.TheVariants as puts
-use Rattle.office_tables.specs.declared.tables.notices.FormerNotice.{FormerNotice}
-use Rattle.office_tables.specs.Statements.{RunAll, notice_put}
-use Rattle.office_tables.specs.Steps.{Puts}
 use Rattle.office_changes.proofs.migrate.put_notices.Given as goal
 
 abbrev pub invariant-notices : goal.invariant-notices

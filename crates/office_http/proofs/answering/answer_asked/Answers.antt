@@ -85,4 +85,4 @@ returns-in-Err-clause-certain g c =
     let is : Err c.in-Err.refusal ≡ c.args.asked = search rules in
     subst (λ (a : Result Asked Refusal). IsCertain g.H.Lookups.meaning c.args.desk.now.shelf c.args.desk.now.shelf c.args.moment
     (λ s. meant_asked c.args.caller.now a) c.refuse.result) is
-    (λ honest s held none. certain_refusal c.refuse.result _ s c.args.moment (Refuses c.in-Err.refusal None) c.in-Err.refusal None refl c.refuse.ensures)
+    (λ honest s held. certain_refusal c.refuse.result _ s c.args.moment (Refuses c.in-Err.refusal None) c.in-Err.refusal None refl c.refuse.ensures)

@@ -57,18 +57,18 @@ returns-in-Err-carry_out-clause-told g c honest s held needs =
 
 pub returns-in-Err-clause-certain : goal.returns-in-Err-clause-certain
 returns-in-Err-clause-certain g c honest s held =
-    certain_command s c.args.moment c.args.caller.now c.args.command c.refuse.result _ c.in-Err.refusal (λ small. c.in-Err.ensures.tells small honest s held) c.refuse.ensures
+    certain_command s c.args.moment c.args.caller.now c.args.command c.refuse.result _ c.in-Err.refusal (c.in-Err.ensures.tells honest s held) c.refuse.ensures
 
 pub returns-in-Ok-carry_out-clause-certain : goal.returns-in-Ok-carry_out-clause-certain
-returns-in-Ok-carry_out-clause-certain g c honest s held none =
+returns-in-Ok-carry_out-clause-certain g c honest s held =
     let before = c.in-Ok-carry_out.ensures.alters.before honest in
     nothing_certain s c.args.moment c.args.caller.now c.args.command c.built.result _ (c.in-Ok.ensures.looks.1 before s held).allowed
 
 pub returns-in-Err-carry_out-clause-certain : goal.returns-in-Err-carry_out-clause-certain
-returns-in-Err-carry_out-clause-certain g c honest s held none =
+returns-in-Err-carry_out-clause-certain g c honest s held =
     let before = c.in-Err-carry_out.ensures.alters.before honest in
     nothing_certain s c.args.moment c.args.caller.now c.args.command c.constant-in-Err-carry_out.result _ (c.in-Ok.ensures.looks.1 before s held).allowed
 
 pub returns-in_default-clause-certain : goal.returns-in_default-clause-certain
-returns-in_default-clause-certain g c honest s held none =
+returns-in_default-clause-certain g c honest s held =
     nothing_certain s c.args.moment c.args.caller.now c.args.command c.constant.result _ (c.in-Ok.ensures.looks.1 honest s held).allowed

@@ -38,13 +38,13 @@ returns-in-Err-seen_response-clause-told g c honest s held needs =
     (c.constant.ensures ∙ c.unavailable.ensures) (c.look.ensures.looks.0.same honest s held)
 
 pub returns-in-Err-clause-certain : goal.returns-in-Err-clause-certain
-returns-in-Err-clause-certain g c honest s held none =
+returns-in-Err-clause-certain g c honest s held =
     refused_query s c.args.moment c.args.caller.now c.args.query c.refuse.result _ c.in-Err.refusal (c.in-Err.ensures.tells honest s held) c.refuse.ensures
 
 pub returns-in-Ok-seen_response-clause-certain : goal.returns-in-Ok-seen_response-clause-certain
-returns-in-Ok-seen_response-clause-certain g c honest s held none =
+returns-in-Ok-seen_response-clause-certain g c honest s held =
     shown_query s c.args.moment c.args.caller.now c.args.query c.built.result _ c.in-Ok.text (c.in-Ok.ensures.tells honest s held)
 
 pub returns-in-Err-seen_response-clause-certain : goal.returns-in-Err-seen_response-clause-certain
-returns-in-Err-seen_response-clause-certain g c honest s held none =
+returns-in-Err-seen_response-clause-certain g c honest s held =
     shown_query s c.args.moment c.args.caller.now c.args.query c.constant.result _ c.in-Ok.text (c.in-Ok.ensures.tells honest s held)

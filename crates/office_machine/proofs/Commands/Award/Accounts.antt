@@ -1,11 +1,11 @@
 -- An award keeps the accounts.
-use Rattle.office_machine.proofs.Names.{◌≡◌, ℕ, ◌+◌, ◌-◌, ◌≤◌, Bool, true, false, cond, not, ◌&&◌, List, ◌∷◌, Option, Some, None, refl, sym, ◌∙◌, ap, subst, ◌⊎◌, inl, inr, arith, nat_le, ◌<◌, nat_cmp-IsAntisymmetric, AllByRecursion, nat_cmp, eq_by_cmp, same_id, Caller, Refusal, holds_of, first_of, with_next_release, clock_put, securities_returned, LineRow, NoticeRow, LotRow, Tables, line_at, notice_at, lot_at, find_line, put_line, find_lot, after_puts, lot_cmp, find_award, put_award, put_lot, envelopes_of_lot, securities_of_lot, free_in, line_of_lot, Given, time_of, command_tests, effect, Readings, Move, Free, Reserved, moves, reserved_for, line_in, same_lot, price_after, move_of_award, other_keys, equal_ids, same_itself, found_key, own_key, nat_tests, AwardRow, EnvelopeRow, SecurityRow, is_open, is_undecided, is_active, LotState, price_of, winner, is_above, reserved_in, unsuccessful, awarded, award_row, decision_puts, award_puts}
+use Rattle.office_machine.proofs.Names.{HaveParents, option_map_or, ◌≡◌, ℕ, ◌+◌, ◌-◌, ◌≤◌, Bool, true, false, cond, not, ◌&&◌, List, ◌∷◌, Option, Some, None, refl, sym, ◌∙◌, ap, subst, ◌⊎◌, inl, inr, arith, nat_le, ◌<◌, nat_cmp-IsAntisymmetric, AllByRecursion, nat_cmp, eq_by_cmp, same_id, Caller, Refusal, holds_of, first_of, with_next_release, clock_put, securities_returned, LineRow, NoticeRow, LotRow, Tables, line_at, notice_at, lot_at, find_line, put_line, find_lot, after_puts, lot_cmp, find_award, put_award, put_lot, envelopes_of_lot, securities_of_lot, free_in, line_of_lot, Given, time_of, command_tests, effect, Readings, Move, Free, Reserved, moves, reserved_for, line_in, same_lot, move_of_award, other_keys, equal_ids, same_itself, found_key, own_key, nat_tests, AwardRow, EnvelopeRow, SecurityRow, is_open, is_undecided, is_active, LotState, price_of, winner, is_above, reserved_in, unsuccessful, awarded, award_row, decision_puts, award_puts}
 use Rattle.office_commands.specs.declared.commands.Command.TheVariants as commands
 use Rattle.office_base.specs.declared.puts.Put.TheVariants as puts
 use Rattle.office_machine.proofs.Accounts.Aside.{kept_aside, aside-securities}
-use Rattle.office_machine.proofs.Rows.Keyed.{found, found_put, elsewhere, still_there}
+use Rattle.office_machine.proofs.Rows.Keyed.{found, found_put, elsewhere}
 use Rattle.office_machine.proofs.Rows.Keyed as keyed
-use Rattle.office_machine.proofs.Accounts.Kept.{AccountsStand, PotsAre, LotIs, AwardIs, is_awarded}
+use Rattle.office_machine.proofs.Accounts.Kept.{AccountsStand, PotsAre, AwardIs, is_awarded}
 use Rattle.office_machine.proofs.Accounts.LotChanged.{lots_are, award_is, back, over, after_line}
 use Rattle.office_machine.proofs.Passed.{none_holds, not_false, at_least, witness, test_of}
 use Rattle.office_base.specs.declared.records.LotState.TheVariants as lot_states
@@ -47,14 +47,11 @@ module _ (readings : Readings) (xs : List Given) (s : Tables) (moment : ℕ) (ca
     at : (l.notice, l.lot) ≡ k
     at = found_key keyed.lots s.lots k l lot
 
-    lot_is : LotIs xs s k l
-    lot_is = kept.lots k l lot
-
     lot_here : find_lot s.lots (l.notice, l.lot) ≡ Some l
     lot_here = ap (find_lot s.lots) at ∙ lot
 
     held : reserved_for xs k ≡ l.reserved
-    held = lot_is.held (open_too _ undecided)
+    held = kept.lots k l lot (open_too _ undecided)
 
     line_is : w.line ≡ l.line
     line_is = found_key keyed.lines s.lines l.line w line
@@ -98,12 +95,12 @@ module _ (readings : Readings) (xs : List Given) (s : Tables) (moment : ℕ) (ca
             same _ (over xs s kept l lot_states.Awarded (price_of e) lot_here w line_is line_here q (price_of e - reserved_for xs k) ((w.free + l.reserved) - price_of e) (omega (arith, held, lt)) (omega (arith, held, lt, p)))
 
     abbrev held' : Option EnvelopeRow → List ℕ × List ℕ → ℕ
-    held' o j = cond (same_lot k j) (price_after o (reserved_for xs j)) (reserved_for xs j)
+    held' o j = cond (same_lot k j) (option_map_or price_of o (reserved_for xs j)) (reserved_for xs j)
 
     held'-other : (o : Option EnvelopeRow) (j : List ℕ × List ℕ) → eq_by_cmp lot_cmp j (l.notice, l.lot) ≡ false → held' o j ≡ reserved_for xs j
     held'-other o j e = by (same_id n j.0) (same_id i j.1) refl refl
       where
-        by : (a b : Bool) → same_id n j.0 ≡ a → same_id i j.1 ≡ b → cond (a && b) (price_after o (reserved_for xs j)) (reserved_for xs j) ≡ reserved_for xs j
+        by : (a b : Bool) → same_id n j.0 ≡ a → same_id i j.1 ≡ b → cond (a && b) (option_map_or price_of o (reserved_for xs j)) (reserved_for xs j) ≡ reserved_for xs j
         by true true f g =
             let h : j ≡ (l.notice, l.lot) = (λ z. (sym (equal_ids n j.0 f) z, sym (equal_ids i j.1 g) z)) ∙ sym at in
             let m : eq_by_cmp lot_cmp j (l.notice, l.lot) ≡ true = ap (λ m. eq_by_cmp lot_cmp j m) (sym h) ∙ own_key keyed.lots.total j in
@@ -111,15 +108,13 @@ module _ (readings : Readings) (xs : List Given) (s : Tables) (moment : ℕ) (ca
         by true false f g = refl
         by false b f g = refl
 
-    held'-here : (o : Option EnvelopeRow) → held' o k ≡ price_after o (reserved_for xs k)
-    held'-here o = ap (λ b. cond b (price_after o (reserved_for xs k)) (reserved_for xs k)) ((λ z. same_itself n z && same_id i i) ∙ same_itself i)
+    held'-here : (o : Option EnvelopeRow) → held' o k ≡ option_map_or price_of o (reserved_for xs k)
+    held'-here o = ap (λ b. cond b (option_map_or price_of o (reserved_for xs k)) (reserved_for xs k)) ((λ z. same_itself n z && same_id i i) ∙ same_itself i)
 
     -- no active award is of this lot
     none_active : (a : ℕ) (v : AwardRow) → find_award s.awards a ≡ Some v → is_active v.state ≡ true → v.notice ≡ l.notice → v.lot ≡ l.lot → ⊥
     none_active a v h f e g =
-        let old = kept.awards a v h in
-        let m : old.of_lot.0 ≡ l = (let b = old.of_lot.1 in let j : find_lot s.lots (v.notice, v.lot) ≡ Some l = ap (find_lot s.lots) (λ z. (e z, g z)) ∙ lot_here in cc) in
-        let b : is_awarded l.state ≡ true = ap (λ (l : LotRow). is_awarded l.state) (sym m) ∙ (old.of_lot.2 f).0 in
+        let b : is_awarded l.state ≡ true = ((kept.awards a v h).of_lot l (ap (find_lot s.lots) (λ z. (e z, g z)) ∙ lot_here) f).0 in
         let c = not_awarded l.state undecided in
         cc
 
@@ -130,19 +125,19 @@ module _ (readings : Readings) (xs : List Given) (s : Tables) (moment : ℕ) (ca
     keeps_by : (o : Option EnvelopeRow) → best ≡ o → price o ≤ l.reserved + w.free → AccountsStand (x ∷ xs) (after o)
     keeps_by None won p = record {
       pots = λ q. subst (λ ms. PotsAre ms (after None) q) (moves_are None won) (pots None p q);
-      lots = lots_are xs s kept l lot_states.Unsuccessful 0 lot_here x (after None) refl (λ q. still_there keyed.lines s.lines _ q) (λ q e. e) (λ e. cc) (held'-other best);
+      lots = lots_are xs s kept l lot_states.Unsuccessful 0 lot_here x (λ e. cc) (held'-other best);
       awards = λ a v h. award_is xs s kept l lot_states.Unsuccessful 0 lot_here (after None) refl (omega arith) a v h (none_active a v h);
       one_active = kept.one_active;
-      contracts = λ c y h. let old = kept.contracts c y h in record { of_lot = still_there keyed.lots s.lots _ (y.notice, y.lot) old.of_lot; of_award = old.of_award; running = old.running; within = old.within; came_in = omega (arith, old.came_in); went_out = omega (arith, old.went_out) };
+      contracts = λ c y h. let old = kept.contracts c y h in record { of_award = old.of_award; running = old.running; within = old.within; came_in = omega (arith, old.came_in); went_out = omega (arith, old.went_out) };
       no_contract = λ c h. let old = kept.no_contract c h in record { came_in = omega (arith, old.came_in); went_out = omega (arith, old.went_out); raised = old.raised; lessened = old.lessened; paid_out = old.paid_out };
     }
     keeps_by (Some e) won p = record {
       pots = λ q. subst (λ ms. PotsAre ms (after (Some e)) q) (moves_are (Some e) won) (pots (Some e) p q);
-      lots = lots_are xs s kept l lot_states.Awarded (price_of e) lot_here x (after (Some e)) refl (λ q. still_there keyed.lines s.lines _ q) (λ q. still_there keyed.notices s.notices _ q)
-          (λ _. ap (held' best) at ∙ (held'-here best ∙ ap (λ o. price_after o (reserved_for xs k)) won)) (held'-other best);
+      lots = lots_are xs s kept l lot_states.Awarded (price_of e) lot_here x
+          (λ _. ap (held' best) at ∙ (held'-here best ∙ ap (λ o. option_map_or price_of o (reserved_for xs k)) won)) (held'-other best);
       awards = λ a v h. an_award a v (was a v h);
       one_active = λ a b v u g h f' f e1 e2. one a b v u (was a v g) (was b u h) f' f e1 e2;
-      contracts = λ c y h. let old = kept.contracts c y h in record { of_lot = still_there keyed.lots s.lots _ (y.notice, y.lot) old.of_lot; of_award = (old.of_award.0, elsewhere keyed.awards s.awards new c (drawn_before c old.of_award.0 old.of_award.1) ∙ old.of_award.1, old.of_award.2); running = old.running; within = old.within; came_in = omega (arith, old.came_in); went_out = omega (arith, old.went_out) };
+      contracts = λ c y h. let old = kept.contracts c y h in record { of_award = (old.of_award.0, elsewhere keyed.awards s.awards new c (drawn_before c old.of_award.0 old.of_award.1) ∙ old.of_award.1, old.of_award.2); running = old.running; within = old.within; came_in = omega (arith, old.came_in); went_out = omega (arith, old.went_out) };
       no_contract = λ c h. let old = kept.no_contract c h in record { came_in = omega (arith, old.came_in); went_out = omega (arith, old.went_out); raised = old.raised; lessened = old.lessened; paid_out = old.paid_out };
     }
       where
@@ -157,7 +152,7 @@ module _ (readings : Readings) (xs : List Given) (s : Tables) (moment : ℕ) (ca
 
         an_award : (a : ℕ) (v : AwardRow) → ((a ≡ s.clock.awards + 1) × (v ≡ new)) ⊎ ((eq_by_cmp nat_cmp a (s.clock.awards + 1) ≡ false) × (find_award s.awards a ≡ Some v)) → AwardIs (after (Some e)) a v
         an_award a v (inl q) =
-            let at : AwardIs (after (Some e)) (s.clock.awards + 1) new = record { drawn = omega arith; of_lot = (awarded e l, found_put keyed.lots s.lots _, λ _. (refl, refl)) } in
+            let at : AwardIs (after (Some e)) (s.clock.awards + 1) new = record { drawn = omega arith; of_lot = λ m h _. let same : Some m ≡ Some (awarded e l) = sym h ∙ found_put keyed.lots s.lots _ in let is : m ≡ awarded e l = cc in subst (λ (m : LotRow). (is_awarded m.state ≡ true) × (m.reserved ≡ price_of e)) (sym is) (refl, refl) } in
             subst (λ a. AwardIs (after (Some e)) a v) (sym q.0) (subst (AwardIs (after (Some e)) (s.clock.awards + 1)) (sym q.1) at)
         an_award a v (inr q) = award_is xs s kept l lot_states.Awarded (price_of e) lot_here (after (Some e)) refl (omega arith) a v q.1 (none_active a v q.1)
 
@@ -181,7 +176,7 @@ module _ (readings : Readings) (xs : List Given) (s : Tables) (moment : ℕ) (ca
     keeps : (o : Option EnvelopeRow) → best ≡ o → price o ≤ l.reserved + w.free → AccountsStand (x ∷ xs) (after_puts (effect readings x) s)
     keeps o won p = subst (λ ps. AccountsStand (x ∷ xs) (after_puts ps s)) (effect_is o won) (puts_by o won p)
 
-  module _ (allowed : first_of (command_tests x) ≡ None) where
+  module _ (have : HaveParents s s) (allowed : first_of (command_tests x) ≡ None) where
     passes : AllByRecursion (λ (test : Bool × Refusal). test.0 ≡ false) (command_tests x)
     passes = none_holds (command_tests x) allowed
 
@@ -193,7 +188,7 @@ module _ (readings : Readings) (xs : List Given) (s : Tables) (moment : ℕ) (ca
     award_keeps =
         let notice = witness (notice_at n s) (not_false _ passes.0) in
         let lot = witness (lot_at k s) (not_false _ passes.1.0) in
-        let line = witness _ (kept.lots k lot.0 lot.1).on_line in
+        let line = witness _ (have.lots k lot.0 lot.1).line in
         let undecided = not_false _ (test_of (λ (l : LotRow). not (is_undecided l.state)) (lot_at k s) lot.0 lot.1 false passes.1.1.1.0) in
         let enough = enough_by best _ passes.1.1.1.1.1.1.0 in
         keeps lot.0 notice.0 line.0 lot.1 notice.1 line.1 undecided best refl

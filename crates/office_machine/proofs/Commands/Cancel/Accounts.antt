@@ -1,5 +1,5 @@
 -- A cancellation keeps the accounts.
-use Rattle.office_machine.proofs.Names.{◌≡◌, ℕ, ◌+◌, Bool, true, false, cond, ◌&&◌, List, [], ◌∷◌, ◌++◌, map, filter, Option, Some, None, is_some, refl, sym, ◌∙◌, ap, subst, arith, option_map, unwrap_or, AllByRecursion, nat_cmp, eq_by_cmp, same_id, id_cmp, Caller, Refusal, holds_of, row_put, first_of, clock_put, security_returned, LineRow, NoticeRow, LotRow, ContractRow, Tables, IsSorted, notice_at, find_line, find_lot, after_puts, line_key, lot_key, lot_cmp, award_key, find_award, of_notice, lots_of_notice, awards_of_notice, envelopes_of_notice, securities_of_notice, after_put, plus, minus, paid_under, free_in, appropriation_in, Given, time_of, command_tests, effect, Readings, Move, Outside, Free, Reserved, Contracted, Paid, moves, reserved_for, Pot, inflow, outflow, same_pot, move_back, filter_filter, equal_keys, ids_exact, same_id_is, if_passes, row_at-filter, found_key, nat_list_cmp_total, Ordering, sum_over, Put, AwardRow, EnvelopeRow, SecurityRow, is_active, no_line, is_open_lot, cancelled_lot, freed, freed_line, ends, is_ended_award, cancelled_award, is_ended_envelope, envelope_put, drop_put, is_ended_security, cancelled_notice, cancel_puts, sum_over-append_map, sum_over-zero, sum_over-ext}
+use Rattle.office_machine.proofs.Names.{◌≡◌, ℕ, ◌+◌, Bool, true, false, cond, ◌&&◌, List, [], ◌∷◌, ◌++◌, map, filter, Option, Some, None, refl, sym, ◌∙◌, ap, subst, arith, option_map, unwrap_or, AllByRecursion, nat_cmp, eq_by_cmp, same_id, id_cmp, Caller, Refusal, holds_of, row_put, first_of, clock_put, security_returned, LineRow, NoticeRow, LotRow, ContractRow, Tables, IsSorted, notice_at, find_line, find_lot, after_puts, line_key, lot_key, lot_cmp, award_key, find_award, of_notice, lots_of_notice, awards_of_notice, envelopes_of_notice, securities_of_notice, after_put, plus, minus, paid_under, free_in, appropriation_in, Given, time_of, command_tests, effect, Readings, Move, Outside, Free, Reserved, Contracted, Paid, moves, reserved_for, Pot, inflow, outflow, same_pot, move_back, filter_filter, equal_keys, ids_exact, same_id_is, if_passes, row_at-filter, found_key, nat_list_cmp_total, Ordering, sum_over, Put, AwardRow, EnvelopeRow, SecurityRow, is_active, no_line, is_open_lot, cancelled_lot, freed, freed_line, ends, is_ended_award, cancelled_award, is_ended_envelope, envelope_put, drop_put, is_ended_security, cancelled_notice, cancel_puts, sum_over-append_map, sum_over-zero, sum_over-ext}
 use Rattle.office_commands.specs.declared.commands.Command.TheVariants as commands
 use Rattle.office_base.specs.declared.puts.Put.TheVariants as puts
 use Rattle.office_machine.proofs.Accounts.Aside.{kept_aside, AreAside, aside-append, aside-map}
@@ -7,7 +7,7 @@ use Rattle.office_machine.proofs.Rows.Keyed.{found, sum-found_agree}
 use Rattle.office_machine.proofs.Rows.Keyed as keyed
 use Rattle.office_machine.proofs.Accounts.Kept.{AccountsStand, PotsAre, LotIs, AwardIs, over_contracts, reserved_by, reserved_over, is_awarded}
 use Rattle.office_machine.proofs.Passed.{none_holds, neither, not_false, witness}
-use Rattle.office_machine.proofs.Rows.RowsPut.{rows_put, some_has, lines_put, lots_put, after_lines, after_lots, found_after, there_after}
+use Rattle.office_machine.proofs.Rows.RowsPut.{rows_put, some_has, lines_put, lots_put, after_lines, after_lots, found_after}
 use Rattle.office_machine.proofs.Accounts.Joins.{is_of}
 use Rattle.office_machine.proofs.Rows.Mapped.{put_changed, changed, put_changed_is, row_at-changed, sum-put_filtered, sum_over-passing}
 
@@ -141,7 +141,7 @@ module _ (readings : Readings) (xs : List Given) (s : Tables) (moment : ℕ) (ca
   -- each lot that ends has reserved the amount that is held for it
   held_by : (q : List ℕ) (l : LotRow) → find_lot s.lots (l.notice, l.lot) ≡ Some l → (b : Bool) → is_ended l ≡ b
       → cond b (cond (same_id l.line q) (reserved_for xs (l.notice, l.lot)) 0) 0 ≡ cond b (reserved_by q l) 0
-  held_by q l is true e = ap (λ m. cond (same_id l.line q) m 0) ((kept.lots (l.notice, l.lot) l is).held (and_parts _ _ e).1)
+  held_by q l is true e = ap (λ m. cond (same_id l.line q) m 0) (kept.lots (l.notice, l.lot) l is (and_parts _ _ e).1)
   held_by q l is false e = refl
 
   held_over : (q : List ℕ) → sum_over (λ (l : LotRow). cond (same_id l.line q) (reserved_for xs (l.notice, l.lot)) 0) ended ≡ freed q ended
@@ -174,13 +174,9 @@ module _ (readings : Readings) (xs : List Given) (s : Tables) (moment : ℕ) (ca
         none_spent = omega (arith, old.none_spent, out_of q Paid, none);
       }
 
-  lot_kept : (j : List ℕ × List ℕ) (l y : LotRow) → find_lot s.lots j ≡ Some l → (b : Bool) → cond b (cancelled_lot l) l ≡ y → LotIs (x ∷ xs) s' j y
-  lot_kept j l y is true e =
-      let old = kept.lots j l is in
-      subst (LotIs (x ∷ xs) s' j) e (record { of_notice = old.of_notice; on_line = there_after nat_list_cmp_total line_key l.line (map (freed_line s.lines ended) ended) s.lines old.on_line; held = λ f. cc })
-  lot_kept j l y is false e =
-      let old = kept.lots j l is in
-      subst (LotIs (x ∷ xs) s' j) e (record { of_notice = old.of_notice; on_line = there_after nat_list_cmp_total line_key l.line (map (freed_line s.lines ended) ended) s.lines old.on_line; held = old.held })
+  lot_kept : (j : List ℕ × List ℕ) (l y : LotRow) → find_lot s.lots j ≡ Some l → (b : Bool) → cond b (cancelled_lot l) l ≡ y → LotIs (x ∷ xs) j y
+  lot_kept j l y is true e = subst (LotIs (x ∷ xs) j) e (λ f. cc)
+  lot_kept j l y is false e = subst (LotIs (x ∷ xs) j) e (kept.lots j l is)
 
   -- an active award of a lot that ends is cancelled
   ends_too : (w : AwardRow) (l : LotRow) → find_lot s.lots (w.notice, w.lot) ≡ Some l → is_active w.state ≡ true → is_ended l ≡ true → is_ended_one w ≡ true
@@ -193,26 +189,19 @@ module _ (readings : Readings) (xs : List Given) (s : Tables) (moment : ℕ) (ca
       (λ i. own i && (active i && ending i))
 
   award_kept : (a : ℕ) (w v : AwardRow) → find_award s.awards a ≡ Some w → (b : Bool) → is_ended_one w ≡ b → cond b (cancelled_award w) w ≡ v → AwardIs s' a v
-  award_kept a w v is true e f =
-      let old = kept.awards a w is in
-      let l = old.of_lot.0 in
-      subst (AwardIs s' a) f (record { drawn = old.drawn; of_lot = (changed is_ended cancelled_lot l, lot_after (w.notice, w.lot) ∙ ap (option_map (changed is_ended cancelled_lot)) old.of_lot.1, λ g. cc) })
+  award_kept a w v is true e f = subst (AwardIs s' a) f (record { drawn = (kept.awards a w is).drawn; of_lot = λ m h g. cc })
   award_kept a w v is false e f =
-      let old = kept.awards a w is in
-      let l = old.of_lot.0 in
       subst (AwardIs s' a) f (record {
-        drawn = old.drawn;
-        of_lot = (
-          changed is_ended cancelled_lot l,
-          lot_after (w.notice, w.lot) ∙ ap (option_map (changed is_ended cancelled_lot)) old.of_lot.1,
-          λ g. by g (is_ended l) refl,
-        );
+        drawn = (kept.awards a w is).drawn;
+        of_lot = λ m h g.
+            let old = before_change (changed is_ended cancelled_lot) (find_lot s.lots (w.notice, w.lot)) m (sym (lot_after (w.notice, w.lot)) ∙ h) in
+            subst (λ (m : LotRow). (is_awarded m.state ≡ true) × (m.reserved ≡ w.price)) old.2 (by old.0 old.1 g (is_ended old.0) refl);
       })
     where
-      by : is_active w.state ≡ true → (b : Bool) → is_ended (kept.awards a w is).of_lot.0 ≡ b
-          → (is_awarded (cond b (cancelled_lot (kept.awards a w is).of_lot.0) (kept.awards a w is).of_lot.0).state ≡ true) × ((cond b (cancelled_lot (kept.awards a w is).of_lot.0) (kept.awards a w is).of_lot.0).reserved ≡ w.price)
-      by g true h = let i = ends_too w (kept.awards a w is).of_lot.0 (kept.awards a w is).of_lot.1 g h in absurd cc
-      by g false h = (kept.awards a w is).of_lot.2 g
+      by : (l : LotRow) → find_lot s.lots (w.notice, w.lot) ≡ Some l → is_active w.state ≡ true → (b : Bool) → is_ended l ≡ b
+          → (is_awarded (cond b (cancelled_lot l) l).state ≡ true) × ((cond b (cancelled_lot l) l).reserved ≡ w.price)
+      by l at g true h = let i = ends_too w l at g h in absurd cc
+      by l at g false h = (kept.awards a w is).of_lot l at g
 
   -- an award that is active after the cancellation was active before it
   was_active : (a : ℕ) (w v : AwardRow) → find_award s.awards a ≡ Some w → (b : Bool) → cond b (cancelled_award w) w ≡ v → is_active v.state ≡ true → find_award s.awards a ≡ Some v
@@ -227,10 +216,6 @@ module _ (readings : Readings) (xs : List Given) (s : Tables) (moment : ℕ) (ca
   isnt_active w e true = refl
   isnt_active w e false = e
 
-  still_some : (o : Option LotRow) → is_some o ≡ true → is_some (option_map (changed is_ended cancelled_lot) o) ≡ true
-  still_some None e = e
-  still_some (Some l) e = refl
-
   ended_keeps : AccountsStand (x ∷ xs) s'
   ended_keeps = record {
     pots = pots;
@@ -243,7 +228,6 @@ module _ (readings : Readings) (xs : List Given) (s : Tables) (moment : ℕ) (ca
     contracts = λ c y h.
         let old = kept.contracts c y h in
         record {
-          of_lot = ap is_some (lot_after (y.notice, y.lot)) ∙ still_some (find_lot s.lots (y.notice, y.lot)) old.of_lot;
           of_award = (changed is_ended_one cancelled_award old.of_award.0, award_after c ∙ ap (option_map (changed is_ended_one cancelled_award)) old.of_award.1, isnt_active old.of_award.0 old.of_award.2 (is_ended_one old.of_award.0));
           running = old.running;
           within = old.within;

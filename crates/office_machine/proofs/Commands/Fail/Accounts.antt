@@ -1,9 +1,9 @@
 -- A failure of an award keeps the accounts.
-use Rattle.office_machine.proofs.Names.{◌≡◌, ℕ, Bool, true, false, List, ◌∷◌, ◌++◌, Some, None, refl, sym, ◌∙◌, ap, subst, arith, AllByRecursion, Caller, Refusal, Forfeited, first_of, with_next_release, clock_put, put_if, passed_over, security_settled, NoticeRow, LotRow, Tables, notice_at, lot_at, find_lot, after_puts, find_award, put_award, put_lot, award_at, plus, minus, paid_under, notice_of_award, lot_of_award, envelope_of_award, security_of_envelope, Given, time_of, command_tests, effect, Readings, moves, found_key, AwardRow, is_active, isnt_active, failed_award, undecided_again, fail_puts}
+use Rattle.office_machine.proofs.Names.{HaveParents, ◌≡◌, ℕ, Bool, true, false, List, ◌∷◌, ◌++◌, Some, None, refl, sym, ◌∙◌, ap, subst, arith, AllByRecursion, Caller, Refusal, Forfeited, first_of, with_next_release, clock_put, put_if, passed_over, security_settled, NoticeRow, LotRow, Tables, notice_at, lot_at, find_lot, after_puts, find_award, put_award, put_lot, award_at, plus, minus, paid_under, notice_of_award, lot_of_award, envelope_of_award, security_of_envelope, Given, time_of, command_tests, effect, Readings, moves, found_key, AwardRow, is_active, isnt_active, failed_award, undecided_again, fail_puts}
 use Rattle.office_commands.specs.declared.commands.Command.TheVariants as commands
 use Rattle.office_base.specs.declared.puts.Put.TheVariants as puts
 use Rattle.office_machine.proofs.Accounts.Aside.{kept_aside, aside-append, aside-if}
-use Rattle.office_machine.proofs.Rows.Keyed.{found, still_there}
+use Rattle.office_machine.proofs.Rows.Keyed.{found}
 use Rattle.office_machine.proofs.Rows.Keyed as keyed
 use Rattle.office_machine.proofs.Accounts.Kept.{AccountsStand, PotsAre, AwardIs, is_awarded}
 use Rattle.office_machine.proofs.Passed.{none_holds, not_false, witness, test_of}
@@ -30,11 +30,8 @@ module _ (readings : Readings) (xs : List Given) (s : Tables) (moment : ℕ) (ca
     here : find_award s.awards w.award ≡ Some w
     here = ap (find_award s.awards) number ∙ is
 
-    same_lot : award.of_lot.0 ≡ l
-    same_lot = let e = award.of_lot.1 in cc
-
     awarded : is_awarded l.state ≡ true
-    awarded = subst (λ (l : LotRow). is_awarded l.state ≡ true) same_lot (award.of_lot.2 active).0
+    awarded = (award.of_lot l lot active).0
 
     at : (l.notice, l.lot) ≡ k
     at = found_key keyed.lots s.lots k l lot
@@ -61,10 +58,10 @@ module _ (readings : Readings) (xs : List Given) (s : Tables) (moment : ℕ) (ca
     failed_keeps : AccountsStand (x ∷ xs) s'
     failed_keeps = record {
       pots = pots;
-      lots = lots_are xs s kept l lot_states.Undecided l.reserved lot_here x s' refl (λ q h. h) (λ q h. h) (λ e. (kept.lots _ l lot_here).held (open_too l.state awarded)) (λ j e. refl);
+      lots = lots_are xs s kept l lot_states.Undecided l.reserved lot_here x (λ e. kept.lots _ l lot_here (open_too l.state awarded)) (λ j e. refl);
       awards = awards_are xs s kept l lot_states.Undecided l.reserved lot_here w award_states.Failed refl here active at s' refl (omega arith);
       one_active = one_active xs s kept l lot_states.Undecided l.reserved lot_here w award_states.Failed refl here active at;
-      contracts = λ c y h. let old = kept.contracts c y h in record { of_lot = still_there keyed.lots s.lots (undecided_again l) (y.notice, y.lot) old.of_lot; of_award = award_of xs s kept l lot_states.Undecided l.reserved lot_here w award_states.Failed refl here active at c y h; running = old.running; within = old.within; came_in = omega (arith, old.came_in); went_out = omega (arith, old.went_out) };
+      contracts = λ c y h. let old = kept.contracts c y h in record { of_award = award_of xs s kept l lot_states.Undecided l.reserved lot_here w award_states.Failed refl here active at c y h; running = old.running; within = old.within; came_in = omega (arith, old.came_in); went_out = omega (arith, old.went_out) };
       no_contract = λ c h. let old = kept.no_contract c h in record { came_in = omega (arith, old.came_in); went_out = omega (arith, old.went_out); raised = old.raised; lessened = old.lessened; paid_out = old.paid_out };
     }
 
@@ -83,7 +80,7 @@ module _ (readings : Readings) (xs : List Given) (s : Tables) (moment : ℕ) (ca
     keeps = subst (λ ps. AccountsStand (x ∷ xs) (after_puts ps s)) effect_is
         (kept_aside (x ∷ xs) (puts.Notice (with_next_release n) ∷ clock_put s.clock (time_of x) ∷ rest) s' (tt, (omega arith, rest_aside)) failed_keeps)
 
-  module _ (allowed : first_of (command_tests x) ≡ None) where
+  module _ (have : HaveParents s s) (allowed : first_of (command_tests x) ≡ None) where
     passes : AllByRecursion (λ (test : Bool × Refusal). test.0 ≡ false) (command_tests x)
     passes = none_holds (command_tests x) allowed
 
@@ -92,6 +89,7 @@ module _ (readings : Readings) (xs : List Given) (s : Tables) (moment : ℕ) (ca
         let found = witness (award_at a s) (not_false _ passes.0) in
         let w = found.0 in
         let is = found.1 in
-        let lot = (kept.awards a w is).of_lot in
-        let notice = witness _ (kept.lots (w.notice, w.lot) lot.0 lot.1).of_notice in
+        let of = have.awards a w is in
+        let lot = witness _ of.lot in
+        let notice = witness _ of.notice in
         keeps w lot.0 notice.0 is lot.1 notice.1 (not_false _ (test_of isnt_active (award_at a s) w is false passes.1.0))

@@ -1,5 +1,5 @@
 -- A failure of an award keeps the fates.
-use Rattle.office_machine.proofs.Names.{◌≡◌, ℕ, Bool, true, false, cond, List, ◌∷◌, Option, Some, None, option_map, option_and_then, is_some, max, refl, sym, ap, ◌∙◌, subst, AllByRecursion, nat_cmp_total, nat_cmp-IsAntisymmetric, nat_cmp, eq_by_cmp, NamedSecurity, Caller, Fail, Refusal, NoticeRow, LotRow, EnvelopeRow, SecurityRow, AwardRow, Put, is_held, first_of, with_next_release, passed_over, settled, failed_award, undecided_again, fail_tests, fail_puts, Tables, envelope_key, award_key, lot_key, envelope_at, seal_at, security_at, award_at, lot_at, notice_at, after_puts, notice_of_award, lot_of_award, envelope_of_award, security_of_envelope, Given, Readings, Reception, received_at, fate_of_tender, security_decided, fate_of_security, is_kept, has_number, carries, is_award_security, SecurityIs, found_key}
+use Rattle.office_machine.proofs.Names.{◌≡◌, ℕ, Bool, true, false, cond, List, ◌∷◌, Option, Some, None, option_map, option_and_then, is_some, max, refl, sym, ap, ◌∙◌, subst, AllByRecursion, nat_cmp_total, nat_cmp-IsAntisymmetric, nat_cmp, eq_by_cmp, NamedSecurity, Caller, Fail, Refusal, NoticeRow, LotRow, EnvelopeRow, SecurityRow, AwardRow, Put, is_held, first_of, with_next_release, passed_over, settled, failed_award, undecided_again, fail_tests, fail_puts, Tables, envelope_key, award_key, envelope_at, seal_at, security_at, award_at, lot_at, notice_at, after_puts, notice_of_award, lot_of_award, envelope_of_award, security_of_envelope, Given, Readings, Reception, received_at, fate_of_tender, security_decided, fate_of_security, is_kept, has_number, carries, is_award_security, SecurityIs, found_key}
 use Rattle.office_base.specs.declared.records.SecurityState.TheVariants as security
 use Rattle.office_base.specs.declared.records.AwardState.TheVariants as award
 use Rattle.office_base.specs.declared.records.LotState.TheVariants as lot

@@ -1,11 +1,11 @@
 -- An import keeps the accounts.
-use Rattle.office_machine.proofs.Names.{◌≡◌, ℕ, ◌+◌, Bool, true, false, cond, ◌&&◌, List, ◌∷◌, ◌++◌, map, None, refl, sym, ap, subst, arith, length, nat_lt, not, Some, [], ◌≤◌, ◌-◌, AllByRecursion, same_id, id_cmp, Caller, Refusal, first_of, LineRow, Tables, IsSorted, after_puts, line_key, put_batch, Given, time_of, command_tests, effect, Readings, Move, Outside, Free, Reserved, Contracted, Paid, moves, Pot, inflow, outflow, same_pot, move_of_row, nat_list_cmp_total, BudgetRow, sum_over, total_limit, appropriation, columns_at-after_row, eq_by_cmp, Columns, Standing, columns_at, standings, appropriation_of, free_of, columns_after, after_row, any_while_walking, passes_limit, row_limit, is_cut, after_rows, imported_line, sum_over-append_map, sum_over-ext, sum_over-zero}
+use Rattle.office_machine.proofs.Names.{◌≡◌, ℕ, ◌+◌, Bool, true, false, cond, ◌&&◌, List, ◌∷◌, ◌++◌, map, None, refl, sym, ap, subst, arith, length, nat_lt, not, Some, [], ◌≤◌, ◌-◌, AllByRecursion, same_id, id_cmp, Caller, Refusal, first_of, LineRow, Tables, IsSorted, after_puts, put_batch, Given, time_of, command_tests, effect, Readings, Move, Outside, Free, Reserved, Contracted, Paid, moves, Pot, inflow, outflow, same_pot, move_of_row, BudgetRow, sum_over, total_limit, appropriation, columns_at-after_row, eq_by_cmp, Columns, Standing, columns_at, standings, appropriation_of, free_of, columns_after, after_row, any_while_walking, passes_limit, row_limit, is_cut, after_rows, imported_line, sum_over-append_map, sum_over-ext, sum_over-zero}
 use Rattle.office_commands.specs.declared.commands.Command.TheVariants as commands
 use Rattle.office_machine.proofs.Accounts.Kept.{AccountsStand, PotsAre}
 use Rattle.office_machine.proofs.Passed.{none_holds, neither, at_least}
 use Rattle.office_machine.proofs.Accounts.Balance.{add_up}
 use Rattle.office_machine.proofs.Commands.Import.Columns.{Changed, IsCovered, stands_after, columns_stand, adds, cuts, rows_change}
-use Rattle.office_machine.proofs.Rows.RowsPut.{lines_put, after_lines, there_after}
+use Rattle.office_machine.proofs.Rows.RowsPut.{lines_put, after_lines}
 
 -- the amount that a row's move brings into free
 into_free : (cut same : Bool) (n : ℕ) → cond (same_pot (cond cut Outside Free) Free && same) n 0 ≡ cond same (cond cut 0 n) 0
@@ -152,12 +152,10 @@ module _ (readings : Readings) (xs : List Given) (s : Tables) (moment : ℕ) (ca
     keeps : AccountsStand (x ∷ xs) imported
     keeps = record {
       pots = pots;
-      lots = λ key lot found.
-          let old = kept.lots key lot found in
-          record { of_notice = old.of_notice; on_line = there_after nat_list_cmp_total line_key lot.line file_lines s.lines old.on_line; held = old.held };
+      lots = kept.lots;
       awards = λ a w h. let old = kept.awards a w h in record { drawn = old.drawn; of_lot = old.of_lot };
       one_active = kept.one_active;
-      contracts = λ c y h. let old = kept.contracts c y h in record { of_lot = old.of_lot; of_award = old.of_award; running = old.running; within = old.within; came_in = omega (arith, old.came_in); went_out = omega (arith, old.went_out) };
+      contracts = λ c y h. let old = kept.contracts c y h in record { of_award = old.of_award; running = old.running; within = old.within; came_in = omega (arith, old.came_in); went_out = omega (arith, old.went_out) };
       no_contract = λ c h. let old = kept.no_contract c h in record { came_in = omega (arith, old.came_in); went_out = omega (arith, old.went_out); raised = old.raised; lessened = old.lessened; paid_out = old.paid_out };
     }
 

@@ -1,15 +1,15 @@
 -- A publication keeps the accounts.
-use Rattle.office_machine.proofs.Names.{◌≡◌, ℕ, ◌+◌, Bool, true, false, cond, ◌&&◌, List, [], ◌∷◌, ◌++◌, map, Option, Some, None, is_some, refl, sym, ◌∙◌, ap, subst, arith, append_assoc, IsSome, AllByRecursion, list_any, eq_by_cmp, same_id, Caller, Refusal, LateWithdrawal, Forfeits, first_of, LineRow, LotRow, ContractRow, Tables, IsSorted, notice_at, find_line, find_lot, after_puts, line_key, put_notice, lot_key, lot_cmp, plus, minus, paid_under, Given, time_of, command_tests, effect, Readings, Move, Outside, Free, Reserved, Contracted, Paid, moves, reserved_for, Pot, inflow, outflow, same_pot, move_of_lot, estimate_in, equal_keys, lots_exact, equal_ids, same_itself, nat_list_cmp_total, repeats_id, NewLot, NewNotice, lot_id, sum_over, Put, is_on_no_line, reserving_line, reserving_line_put, lot_row, new_lot_put, notice_row, notice_put, publish_parts, late_puts, lots_total, sum_over-append_map, sum_over-zero}
+use Rattle.office_machine.proofs.Names.{found_key, HaveParents, ◌≡◌, ℕ, ◌+◌, Bool, true, false, cond, ◌&&◌, List, [], ◌∷◌, ◌++◌, map, Option, Some, None, is_some, refl, sym, ◌∙◌, ap, subst, arith, append_assoc, IsSome, AllByRecursion, list_any, eq_by_cmp, same_id, Caller, Refusal, LateWithdrawal, Forfeits, first_of, LineRow, LotRow, ContractRow, Tables, IsSorted, notice_at, find_line, find_lot, after_puts, put_notice, lot_key, lot_cmp, plus, minus, paid_under, Given, time_of, command_tests, effect, Readings, Move, Outside, Free, Reserved, Contracted, Paid, moves, reserved_for, Pot, inflow, outflow, same_pot, move_of_lot, estimate_in, equal_keys, lots_exact, equal_ids, same_itself, repeats_id, NewLot, NewNotice, lot_id, sum_over, Put, is_on_no_line, reserving_line, reserving_line_put, lot_row, new_lot_put, notice_row, notice_put, publish_parts, late_puts, lots_total, sum_over-append_map, sum_over-zero}
 use Rattle.office_commands.specs.declared.notice.LateWithdrawal.TheVariants.{Refused}
 use Rattle.office_machine.proofs.Accounts.Aside.{AreAside, kept_aside, after-append}
 use Rattle.office_commands.specs.declared.commands.Command.TheVariants as commands
 use Rattle.office_base.specs.declared.puts.Put.TheVariants as puts
-use Rattle.office_machine.proofs.Rows.Keyed.{found, found_put, still_there, sum-found_agree}
+use Rattle.office_machine.proofs.Rows.Keyed.{found, sum-found_agree}
 use Rattle.office_machine.proofs.Rows.Keyed as keyed
 use Rattle.office_machine.proofs.Accounts.Kept.{AccountsStand, PotsAre, LotIs, over_contracts}
 use Rattle.office_machine.proofs.Passed.{none_holds, neither, not_false, witness}
 use Rattle.office_machine.proofs.Commands.Publish.Rows.{taken_after, enough, AreAbsent, lots_new, reserved_after}
-use Rattle.office_machine.proofs.Rows.RowsPut.{lines_put, lots_put, AreNew, after_lines, after_lots, found_after, there_after}
+use Rattle.office_machine.proofs.Rows.RowsPut.{lines_put, lots_put, AreNew, after_lines, after_lots, found_after}
 use Rattle.office_machine.proofs.Accounts.Joins.{is_of}
 
 module _ (ms : List Move) (lots : List NewLot) (q : List ℕ) where
@@ -50,7 +50,7 @@ estimates_found (lot ∷ lots) own =
     let each = neither _ _ own in
     (λ n. ap (λ b. cond b lot.estimate (estimate_in lots lot.id n)) (same_itself lot.id), found_later lot lots lots each.0 (estimates_found lots each.1))
 
-module _ (readings : Readings) (xs : List Given) (s : Tables) (moment : ℕ) (caller : Caller) (notice : List ℕ) (content : NewNotice) (kept : AccountsStand xs s) (order : IsSorted s)
+module _ (readings : Readings) (xs : List Given) (s : Tables) (moment : ℕ) (caller : Caller) (notice : List ℕ) (content : NewNotice) (kept : AccountsStand xs s) (order : IsSorted s) (have : HaveParents s s)
     (own : repeats_id lot_id content.lots ≡ false) where
   abbrev x : Given
   x = record { before = s; moment = moment; caller = caller; command = commands.Publish notice content }
@@ -84,9 +84,12 @@ module _ (readings : Readings) (xs : List Given) (s : Tables) (moment : ℕ) (ca
     passes : AllByRecursion (λ (test : Bool × Refusal). test.0 ≡ false) (command_tests x)
     passes = none_holds (command_tests x) allowed
 
+    kept_notice : (key : List ℕ × List ℕ) (lot : LotRow) → find_lot s.lots key ≡ Some lot → is_some (notice_at key.0 s) ≡ true
+    kept_notice key lot found = ap (λ (k : List ℕ × List ℕ). is_some (notice_at k.0 s)) (sym (found_key keyed.lots s.lots key lot found)) ∙ (have.lots key lot found).notice
+
     no_lot : (id : List ℕ) (found : Option LotRow) → find_lot s.lots (notice, id) ≡ found → found ≡ None
     no_lot id None e = refl
-    no_lot id (Some lot) e = let there : is_some (notice_at notice s) ≡ true = (kept.lots (notice, id) lot e).of_notice in let none = passes.1.0 in absurd cc
+    no_lot id (Some lot) e = let there : is_some (notice_at notice s) ≡ true = kept_notice (notice, id) lot e in let none = passes.1.0 in absurd cc
 
     all_absent : (lots : List NewLot) → AreAbsent s.lots notice lots
     all_absent [] = tt
@@ -106,7 +109,7 @@ module _ (readings : Readings) (xs : List Given) (s : Tables) (moment : ℕ) (ca
     joined : (f : ContractRow → ℕ) (q : List ℕ) → over_contracts f published.lots s.contracts q ≡ over_contracts f s.lots s.contracts q
     joined f q =
         sum-found_agree keyed.contracts _ _ s.contracts order.contracts (λ y is.
-        let lot = witness _ (kept.contracts y.contract y is).of_lot in
+        let lot = witness _ (have.contracts y.contract y is).lot in
         ap (λ o. cond (is_of o q) (f y) 0) (still_found (y.notice, y.lot) lot.0 lot.1 ∙ sym lot.1))
 
     pots : (q : List ℕ) → PotsAre (moves (x ∷ xs)) published q
@@ -126,58 +129,44 @@ module _ (readings : Readings) (xs : List Given) (s : Tables) (moment : ℕ) (ca
           none_spent = omega (arith, old.none_spent, from_pot Paid, none);
         }
 
-    line_there : (line : List ℕ) → IsSome (find_line s.lines line) → IsSome (find_line published.lines line)
-    line_there line there = there_after nat_list_cmp_total line_key line lot_lines s.lines there
-
     -- the facts remain true of an earlier lot
-    old_lot : (key : List ℕ × List ℕ) (lot : LotRow) → find_lot s.lots key ≡ Some lot → LotIs (x ∷ xs) published key lot
-    old_lot key lot found =
-        let old = kept.lots key lot found in
-        record {
-          of_notice = still_there keyed.notices s.notices (notice_row (time_of x) notice content) key.0 old.of_notice;
-          on_line = line_there lot.line old.on_line;
-          held = λ e. by (same_id notice key.0) refl ∙ old.held e;
-        }
+    old_lot : (key : List ℕ × List ℕ) (lot : LotRow) → find_lot s.lots key ≡ Some lot → LotIs (x ∷ xs) key lot
+    old_lot key lot found e = by (same_id notice key.0) refl ∙ kept.lots key lot found e
       where
         by : (b : Bool) → same_id notice key.0 ≡ b → cond b (estimate_in content.lots key.1 (reserved_for xs key)) (reserved_for xs key) ≡ reserved_for xs key
         by true e =
-            let there : is_some (notice_at notice s) ≡ true = ap (λ n. is_some (notice_at n s)) (equal_ids notice key.0 e) ∙ (kept.lots key lot found).of_notice in
+            let there : is_some (notice_at notice s) ≡ true = ap (λ n. is_some (notice_at n s)) (equal_ids notice key.0 e) ∙ kept_notice key lot found in
             let none = passes.1.0 in
             absurd cc
         by false e = refl
 
     -- the facts are true of a lot of this notice
-    new_lot : (lot : NewLot) → IsSome (find_line s.lines lot.line) → ((n : ℕ) → estimate_in content.lots lot.id n ≡ lot.estimate) → LotIs (x ∷ xs) published (notice, lot.id) (lot_row notice lot)
-    new_lot lot on_line estimated = record {
-      of_notice = ap is_some (found_put keyed.notices s.notices (notice_row (time_of x) notice content));
-      on_line = line_there lot.line on_line;
-      held = λ e. ap (λ b. cond b (estimate_in content.lots lot.id (reserved_for xs (notice, lot.id))) (reserved_for xs (notice, lot.id))) (same_itself notice) ∙ estimated (reserved_for xs (notice, lot.id));
-    }
+    new_lot : (lot : NewLot) → ((n : ℕ) → estimate_in content.lots lot.id n ≡ lot.estimate) → LotIs (x ∷ xs) (notice, lot.id) (lot_row notice lot)
+    new_lot lot estimated e = ap (λ b. cond b (estimate_in content.lots lot.id (reserved_for xs (notice, lot.id))) (reserved_for xs (notice, lot.id))) (same_itself notice) ∙ estimated (reserved_for xs (notice, lot.id))
 
-    each_new : (key : List ℕ × List ℕ) (lot : LotRow) (lots : List NewLot) → OnLines s.lines lots → AreFound content.lots lots
-        → AllByRecursion (λ (r : LotRow). eq_by_cmp lot_cmp key (lot_key r) ≡ true → Some r ≡ Some lot → LotIs (x ∷ xs) published key lot) (map (lot_row notice) lots)
-    each_new key lot [] there estimated = tt
-    each_new key lot (added ∷ lots) there estimated = (
+    each_new : (key : List ℕ × List ℕ) (lot : LotRow) (lots : List NewLot) → AreFound content.lots lots
+        → AllByRecursion (λ (r : LotRow). eq_by_cmp lot_cmp key (lot_key r) ≡ true → Some r ≡ Some lot → LotIs (x ∷ xs) key lot) (map (lot_row notice) lots)
+    each_new key lot [] estimated = tt
+    each_new key lot (added ∷ lots) estimated = (
       λ e same.
           let is : lot_row notice added ≡ lot = cc in
-          subst (λ k. LotIs (x ∷ xs) published k lot) (sym (equal_keys lots_exact key (notice, added.id) e))
-          (subst (LotIs (x ∷ xs) published (notice, added.id)) is (new_lot added there.0 estimated.0)),
-      each_new key lot lots there.1 estimated.1,
+          subst (λ k. LotIs (x ∷ xs) k lot) (sym (equal_keys lots_exact key (notice, added.id) e))
+          (subst (LotIs (x ∷ xs) (notice, added.id)) is (new_lot added estimated.0)),
+      each_new key lot lots estimated.1,
     )
 
     keeps : AccountsStand (x ∷ xs) published
     keeps = record {
       pots = pots;
       lots = λ key lot.
-          found_after lots_total lot_key (λ found. found ≡ Some lot → LotIs (x ∷ xs) published key lot) key lot_rows s.lots
-          (each_new key lot content.lots (on_lines s.lines content.lots passes.0) (estimates_found content.lots own))
+          found_after lots_total lot_key (λ found. found ≡ Some lot → LotIs (x ∷ xs) key lot) key lot_rows s.lots
+          (each_new key lot content.lots (estimates_found content.lots own))
           (λ none. old_lot key lot);
-      awards = λ a w h. let old = kept.awards a w h in record { drawn = old.drawn; of_lot = (old.of_lot.0, still_found (w.notice, w.lot) old.of_lot.0 old.of_lot.1, old.of_lot.2) };
+      awards = λ a w at. let old = kept.awards a w at in record { drawn = old.drawn; of_lot = λ m h. let lot = witness _ (have.awards a w at).lot in let same : Some m ≡ Some lot.0 = sym h ∙ still_found (w.notice, w.lot) lot.0 lot.1 in old.of_lot m (lot.1 ∙ sym same) };
       one_active = kept.one_active;
       contracts = λ c y h.
           let old = kept.contracts c y h in
-          let lot = witness _ old.of_lot in
-          record { of_lot = ap is_some (still_found (y.notice, y.lot) lot.0 lot.1); of_award = old.of_award; running = old.running; within = old.within; came_in = omega (arith, old.came_in); went_out = omega (arith, old.went_out) };
+          record { of_award = old.of_award; running = old.running; within = old.within; came_in = omega (arith, old.came_in); went_out = omega (arith, old.went_out) };
       no_contract = λ c h. let old = kept.no_contract c h in record { came_in = omega (arith, old.came_in); went_out = omega (arith, old.went_out); raised = old.raised; lessened = old.lessened; paid_out = old.paid_out };
     }
 

@@ -1,12 +1,12 @@
 -- A signing keeps the accounts.
-use Rattle.office_machine.proofs.Names.{◌≡◌, ℕ, ◌+◌, Bool, true, false, cond, List, ◌∷◌, Option, Some, None, refl, sym, ◌∙◌, ap, subst, ◌⊎◌, inl, inr, arith, ◌++◌, nat_cmp-IsAntisymmetric, nat_cmp_total, AllByRecursion, nat_cmp, eq_by_cmp, same_id, NamedSecurity, same_number, Tables, IsSorted, notice_at, lot_at, find_lot, find_contract, put_contract, after_puts, find_award, put_award, put_lot, award_at, Caller, Refusal, first_of, with_next_release, clock_put, securities_returned, put_if, NoticeRow, LotRow, ContractRow, plus, minus, paid_under, notice_of_award, lot_of_award, envelope_of_award, securities_of_award, Given, time_of, command_tests, effect, Readings, moves, reserved_for, line_in, lot_in_award, other_keys, found_key, own_key, AwardRow, is_open, is_active, LotState, isnt_active, signed_award, contracted_lot, contract_row, tenderer_in, performance_put, sign_puts}
+use Rattle.office_machine.proofs.Names.{HaveParents, ◌≡◌, ℕ, ◌+◌, Bool, true, false, cond, List, ◌∷◌, Option, Some, None, refl, sym, ◌∙◌, ap, subst, ◌⊎◌, inl, inr, arith, ◌++◌, nat_cmp-IsAntisymmetric, nat_cmp_total, AllByRecursion, nat_cmp, eq_by_cmp, same_id, NamedSecurity, same_number, Tables, IsSorted, notice_at, lot_at, find_lot, find_contract, put_contract, after_puts, find_award, put_award, put_lot, award_at, Caller, Refusal, first_of, with_next_release, clock_put, securities_returned, put_if, NoticeRow, LotRow, ContractRow, plus, minus, paid_under, notice_of_award, lot_of_award, envelope_of_award, securities_of_award, Given, time_of, command_tests, effect, Readings, moves, reserved_for, line_in, lot_in_award, other_keys, found_key, own_key, AwardRow, is_open, is_active, LotState, isnt_active, signed_award, contracted_lot, contract_row, tenderer_in, performance_put, sign_puts}
 use Rattle.office_commands.specs.declared.commands.Command.TheVariants as commands
 use Rattle.office_base.specs.declared.puts.Put.TheVariants as puts
 use Rattle.office_machine.proofs.Accounts.Aside.{kept_aside, aside-securities, aside-append, aside-if}
-use Rattle.office_machine.proofs.Rows.Keyed.{found, found_put, still_there, none_before}
+use Rattle.office_machine.proofs.Rows.Keyed.{found, found_put, none_before}
 use Rattle.office_machine.proofs.Rows.Keyed as keyed
-use Rattle.office_machine.proofs.Accounts.Kept.{AccountsStand, PotsAre, LotIs, AwardIs, ContractIs, NoContractIs, over_contracts, is_awarded}
-use Rattle.office_machine.proofs.Passed.{none_holds, not_false, witness, test_of, is_there, no_zero}
+use Rattle.office_machine.proofs.Accounts.Kept.{AccountsStand, PotsAre, AwardIs, ContractIs, NoContractIs, over_contracts, is_awarded}
+use Rattle.office_machine.proofs.Passed.{none_holds, not_false, witness, test_of, no_zero}
 use Rattle.office_base.specs.declared.records.LotState.TheVariants as lot_states
 use Rattle.office_base.specs.declared.records.AwardState.TheVariants as award_states
 use Rattle.office_machine.proofs.Accounts.LotChanged.{joined, reserved_after, lots_are, awards_are, one_active, award_of}
@@ -49,26 +49,17 @@ module _ (readings : Readings) (xs : List Given) (s : Tables) (moment : ℕ) (ca
     here : find_award s.awards w.award ≡ Some w
     here = ap (find_award s.awards) number ∙ is
 
-    same_lot : award.of_lot.0 ≡ l
-    same_lot = let e = award.of_lot.1 in cc
-
     awarded : (is_awarded l.state ≡ true) × (l.reserved ≡ w.price)
-    awarded = subst (λ (l : LotRow). (is_awarded l.state ≡ true) × (l.reserved ≡ w.price)) same_lot (award.of_lot.2 active)
+    awarded = award.of_lot l lot active
 
     at : (l.notice, l.lot) ≡ k
     at = found_key keyed.lots s.lots k l lot
 
-    lot_is : LotIs xs s k l
-    lot_is = kept.lots k l lot
-
     lot_here : find_lot s.lots (l.notice, l.lot) ≡ Some l
     lot_here = ap (find_lot s.lots) at ∙ lot
 
-    there_is : LotIs xs s (l.notice, l.lot) l
-    there_is = kept.lots _ l lot_here
-
     held : reserved_for xs k ≡ l.reserved
-    held = lot_is.held (open_too l.state awarded.0)
+    held = kept.lots k l lot (open_too l.state awarded.0)
 
     -- the lot of the move is that of the award
     of_award : lot_in_award (award_at a s) ≡ k
@@ -120,7 +111,6 @@ module _ (readings : Readings) (xs : List Given) (s : Tables) (moment : ℕ) (ca
         by (inl p) =
             let at : ContractIs (x ∷ xs) s' w.award r =
             record {
-              of_lot = is_there _ _ lot_there;
               of_award = (w', found_put keyed.awards s.awards w', refl);
               running = λ _. refl;
               within = omega (arith, nothing_yet.lessened);
@@ -130,7 +120,6 @@ module _ (readings : Readings) (xs : List Given) (s : Tables) (moment : ℕ) (ca
             in
             subst (λ c. ContractIs (x ∷ xs) s' c y) (sym p.0) (subst (ContractIs (x ∷ xs) s' w.award) (sym p.1) at)
         by (inr p) = record {
-          of_lot = still_there keyed.lots s.lots l' (y.notice, y.lot) old.of_lot;
           of_award = award_of xs s kept l lot_states.Contracted 0 lot_here w award_states.Signed refl here active at c y p.1;
           running = old.running;
           within = old.within;
@@ -160,7 +149,7 @@ module _ (readings : Readings) (xs : List Given) (s : Tables) (moment : ℕ) (ca
     signed_keeps : AccountsStand (x ∷ xs) s'
     signed_keeps = record {
       pots = pots;
-      lots = lots_are xs s kept l lot_states.Contracted 0 lot_here x s' refl (λ q h. h) (λ q h. h) (λ e. cc) (λ j e. refl);
+      lots = lots_are xs s kept l lot_states.Contracted 0 lot_here x (λ e. cc) (λ j e. refl);
       awards = awards_are xs s kept l lot_states.Contracted 0 lot_here w award_states.Signed refl here active at s' refl (omega arith);
       one_active = one_active xs s kept l lot_states.Contracted 0 lot_here w award_states.Signed refl here active at;
       contracts = contracts;
@@ -174,7 +163,7 @@ module _ (readings : Readings) (xs : List Given) (s : Tables) (moment : ℕ) (ca
     keeps = subst (λ ps. AccountsStand (x ∷ xs) (after_puts ps s)) effect_is
         (kept_aside (x ∷ xs) (puts.Notice (with_next_release n) ∷ clock_put s.clock (time_of x) ∷ securities_returned (securities_of_award (award_at a s) s) ++ put_if (performance_put w) named) s' (tt, (omega arith, aside-append s.clock.awards (securities_returned (securities_of_award (award_at a s) s)) (put_if (performance_put w) named) (aside-securities s.clock.awards (securities_of_award (award_at a s) s)) (aside-if s.clock.awards (performance_put w) named (λ _. tt)))) signed_keeps)
 
-  module _ (allowed : first_of (command_tests x) ≡ None) where
+  module _ (have : HaveParents s s) (allowed : first_of (command_tests x) ≡ None) where
     passes : AllByRecursion (λ (test : Bool × Refusal). test.0 ≡ false) (command_tests x)
     passes = none_holds (command_tests x) allowed
 
@@ -183,6 +172,7 @@ module _ (readings : Readings) (xs : List Given) (s : Tables) (moment : ℕ) (ca
         let found = witness (award_at a s) (not_false _ passes.0) in
         let w = found.0 in
         let is = found.1 in
-        let lot = (kept.awards a w is).of_lot in
-        let notice = witness _ (kept.lots (w.notice, w.lot) lot.0 lot.1).of_notice in
+        let of = have.awards a w is in
+        let lot = witness _ of.lot in
+        let notice = witness _ of.notice in
         keeps w lot.0 notice.0 is lot.1 notice.1 (not_false _ (test_of isnt_active (award_at a s) w is false passes.1.1.1.1.0))

@@ -1,5 +1,4 @@
-use Rattle.std.proofs.Common.{◌≡◌, length}
-use Rattle.office_requests.specs.Bodies.{begins_object}
+use Rattle.office_requests.proofs.Names.{◌≡◌, length, begins_object}
 use Rattle.office_requests.proofs.bodies.begins_object.Given as goal
 
 abbrev pub invariant-loop-first : goal.invariant-loop-first

@@ -1,4 +1,4 @@
-use Rattle.std.proofs.Common.{inl, inr, sym}
+use Rattle.office_requests.proofs.Names.{inl, inr, sym}
 use Rattle.office_requests.proofs.BodySteps.{object_read, no_json}
 use Rattle.office_requests.proofs.bodies.read_object.Goals as goal
 

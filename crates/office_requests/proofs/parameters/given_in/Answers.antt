@@ -1,7 +1,5 @@
-use Rattle.std.proofs.Common.{◌∙◌}
-use Rattle.std.proofs.lemmas.Result.{IfOk-at_ok}
+use Rattle.office_requests.proofs.Names.{◌∙◌, IfOk-at_ok, given_in}
 use Rattle.office_requests.proofs.ParameterSteps.{one_pair, no_pair}
-use Rattle.office_requests.specs.Parameters.{given_in}
 use Rattle.office_requests.proofs.parameters.given_in.Goals as goal
 
 pub pairs-preserved-in_ok-key : goal.pairs-preserved-in_ok-key

@@ -1,6 +1,4 @@
-use Rattle.std.proofs.Common.{◌≡◌}
-use Rattle.form_urlencoded.specs.Parse.{pairs_left}
-use Rattle.office_requests.specs.Parameters.{given_from, given_in}
+use Rattle.office_requests.proofs.Names.{◌≡◌, pairs_left, given_from, given_in}
 use Rattle.office_requests.proofs.parameters.given_in.Given as goal
 
 abbrev pub invariant-pairs : goal.invariant-pairs

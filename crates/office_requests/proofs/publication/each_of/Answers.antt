@@ -1,4 +1,4 @@
-use Rattle.std.proofs.Common.{inl, inr}
+use Rattle.office_requests.proofs.Names.{inl, inr}
 use Rattle.office_requests.proofs.ElementSteps.{one_more, no_more, all_done}
 use Rattle.office_requests.proofs.publication.each_of.Goals as goal
 

@@ -1,5 +1,4 @@
-use Rattle.std.proofs.Common.{◌≡◌, map, drop}
-use Rattle.office_requests.specs.Routing.{inserted, command_route}
+use Rattle.office_requests.proofs.Names.{◌≡◌, map, drop, inserted, command_route}
 use Rattle.office_requests.proofs.routes.with_commands.Given as goal
 
 abbrev pub invariant-kinds : goal.invariant-kinds

@@ -1,7 +1,4 @@
-use Rattle.std.proofs.Common.{◌≡◌, ℕ, List, ◌∷◌, [], ◌++◌, length, take, drop, Option, Some, None}
-use Rattle.std.specs.Prelude.{codes, IfSome, IfNone}
-use Rattle.office_values.specs.Moments.{IsMomentText}
-use Rattle.office_wire.specs.Blocks.{IsLine}
+use Rattle.office_wire.proofs.Names.{◌≡◌, ℕ, List, ◌∷◌, [], ◌++◌, length, take, drop, Option, Some, None, codes, IfSome, IfNone, IsMomentText, IsLine}
 use Rattle.office_wire.proofs.BlockLemmas.{line_parts, line_text}
 use Rattle.office_wire.proofs.blocks.moment_in.Goals as goal
 

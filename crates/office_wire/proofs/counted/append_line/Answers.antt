@@ -1,6 +1,4 @@
-use Rattle.std.proofs.Common.{subst, length-take-le, take}
-use Rattle.std.specs.Io.BufRead.{FillKeeps}
-use Rattle.std.proofs.BufReadLemmas.{Consumes_shown}
+use Rattle.office_wire.proofs.Names.{subst, length-take-le, take, FillKeeps, Consumes_shown}
 use Rattle.office_wire.proofs.CountLemmas.{none_shown}
 use Rattle.office_wire.proofs.counted.append_line.Goals as goal
 

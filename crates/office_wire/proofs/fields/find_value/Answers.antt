@@ -1,8 +1,4 @@
-use Rattle.std.proofs.Common.{◌≡◌, ℕ, List, length, Option, Some, None, sym, ap, arith, true, ◌∙◌}
-use Rattle.std.specs.Prelude.{is_some, option_map, option_to_list}
-use Rattle.std.specs.Str.{str_eq_ignore_ascii_case}
-use Rattle.httparse.specs.Spans.{header_bytes, span_bytes}
-use Rattle.httparse.specs.declared.spans.Span.{Span}
+use Rattle.office_wire.proofs.Names.{◌≡◌, ℕ, List, length, Option, Some, None, sym, ap, arith, true, ◌∙◌, is_some, option_map, option_to_list, str_eq_ignore_ascii_case, header_bytes, span_bytes, Span}
 use Rattle.office_wire.proofs.FieldLemmas.{values_more}
 use Rattle.office_wire.proofs.fields.find_value.Goals as goal
 

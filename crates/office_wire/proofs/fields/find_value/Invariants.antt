@@ -1,7 +1,4 @@
-use Rattle.std.proofs.Common.{◌≡◌, length, take, map}
-use Rattle.std.specs.Prelude.{IfSome, option_map, option_to_list}
-use Rattle.httparse.specs.Spans.{header_bytes, span_bytes, IsWithin}
-use Rattle.office_wire.specs.Fields.{values_of}
+use Rattle.office_wire.proofs.Names.{◌≡◌, length, take, map, IfSome, option_map, option_to_list, header_bytes, span_bytes, IsWithin, values_of}
 use Rattle.office_wire.proofs.fields.find_value.Given as goal
 
 abbrev pub invariant-fields : goal.invariant-fields

@@ -1,8 +1,4 @@
-use Rattle.std.proofs.Common.{◌≡◌, ◌+◌, ◌*◌, ◌≤◌, ◌-◌, ℕ, get_or, min, arith, refl, ◌∙◌, ◌<◌}
-use Rattle.std.specs.Char.{is_ascii_digit, digit_value}
-use Rattle.std.proofs.lemmas.List.Folds.{list_all_more}
-use Rattle.std.proofs.lemmas.Int.Digits.{digits_value_more}
-use Rattle.std.proofs.lemmas.Str.{digit_value_digit}
+use Rattle.office_wire.proofs.Names.{◌≡◌, ◌+◌, ◌*◌, ◌≤◌, ◌-◌, ℕ, get_or, min, arith, refl, ◌∙◌, ◌<◌, is_ascii_digit, digit_value, list_all_more, digits_value_more, digit_value_digit}
 use Rattle.office_wire.proofs.framing.capped_number.Goals.{then-number-gt-MOST_BODY, else-number-gt-MOST_BODY}
 use Rattle.office_wire.proofs.framing.capped_number.Goals as goal
 

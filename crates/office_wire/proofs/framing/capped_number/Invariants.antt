@@ -1,8 +1,4 @@
-use Rattle.std.proofs.Common.{◌≡◌, take, true}
-use Rattle.std.specs.Prelude.{min}
-use Rattle.std.specs.List.{list_all}
-use Rattle.std.specs.Char.{is_ascii_digit}
-use Rattle.std.specs.Str.Parse.{digits_value}
+use Rattle.office_wire.proofs.Names.{◌≡◌, take, true, min, list_all, is_ascii_digit, digits_value}
 use Rattle.office_wire.proofs.framing.capped_number.Given as goal
 
 abbrev pub invariant-digits : goal.invariant-digits

@@ -1,4 +1,4 @@
-use Rattle.std.proofs.Common.{sym, ap, Err, inl, ◌∙◌}
+use Rattle.office_wire.proofs.Names.{sym, ap, Err, inl, ◌∙◌}
 use Rattle.office_wire.proofs.HeadLemmas.{few_fields, no_head_now}
 use Rattle.office_wire.proofs.head.parse_within.Goals as goal
 

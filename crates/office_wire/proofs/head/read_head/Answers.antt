@@ -1,8 +1,4 @@
-use Rattle.std.proofs.Common.{◌≡◌, ℕ, List, [], ◌++◌, length, drop, Some, Ok, arith, rules, sym, ap, subst, refl, inl, inr, ◌∙◌}
-use Rattle.std.proofs.lemmas.List.{append-nil, drop_at}
-use Rattle.std.proofs.lemmas.Result.{err_from_is_err_and}
-use Rattle.httparse.specs.Grammar.{HasNoRequest}
-use Rattle.office_wire.specs.Head.{StandsHead, IsBadHead, IsLongHead, view_of}
+use Rattle.office_wire.proofs.Names.{◌≡◌, ℕ, List, [], ◌++◌, length, drop, Some, Ok, arith, rules, sym, ap, subst, refl, inl, inr, ◌∙◌, append-nil, drop_at, err_from_is_err_and, HasNoRequest, StandsHead, IsBadHead, IsLongHead, view_of}
 use Rattle.office_wire.proofs.HeadLemmas.{no_head_nil, no_head_quiet, never_bad, open_long, stands_now}
 use Rattle.office_wire.proofs.ReadLemmas.{read_more, over}
 use Rattle.office_wire.proofs.head.read_head.Goals as goal

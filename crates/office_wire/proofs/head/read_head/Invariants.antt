@@ -1,5 +1,4 @@
-use Rattle.std.proofs.Common.{◌≡◌, ◌≤◌, ◌-◌, ℕ, List, ◌++◌, length, Some}
-use Rattle.httparse.specs.Grammar.{HasNoRequest}
+use Rattle.office_wire.proofs.Names.{◌≡◌, ◌≤◌, ◌-◌, ℕ, List, ◌++◌, length, Some, HasNoRequest}
 use Rattle.office_wire.proofs.head.read_head.Given as goal
 
 abbrev pub invariant-bytes : goal.invariant-bytes

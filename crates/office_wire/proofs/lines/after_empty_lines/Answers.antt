@@ -1,7 +1,5 @@
-use Rattle.std.proofs.Common.{arith, sym, ap, ◌∙◌, ◌-◌, length, drop, inl, inr}
-use Rattle.std.proofs.lemmas.List.{take_all, drop_all, length-drop}
+use Rattle.office_wire.proofs.Names.{arith, sym, ap, ◌∙◌, ◌-◌, length, drop, inl, inr, take_all, drop_all, length-drop, skip_empty}
 use Rattle.office_wire.proofs.lines.after_empty_lines.Goals.{else-bytes-at-eq13-via-then-bytes-at-eq13+then-at-bytes+else-bytes-at-eq10-2, else-bytes-at-eq13-via-then-bytes-at-eq13+else-at-bytes, else-bytes-at-eq13-via-else-bytes-at-eq13}
-use Rattle.office_wire.specs.Head.{skip_empty}
 use Rattle.office_wire.proofs.HeadLemmas.{skip_stop, skip_at_lf, skip_at_crlf}
 use Rattle.office_wire.proofs.lines.after_empty_lines.Goals as goal
 

@@ -1,5 +1,4 @@
-use Rattle.std.proofs.Common.{length, ◌-◌, ◌≡◌, ◌≤◌, drop}
-use Rattle.office_wire.specs.Head.{skip_empty}
+use Rattle.office_wire.proofs.Names.{length, ◌-◌, ◌≡◌, ◌≤◌, drop, skip_empty}
 use Rattle.office_wire.proofs.lines.after_empty_lines.Given as goal
 
 abbrev pub invariant-loop-at : goal.invariant-loop-at

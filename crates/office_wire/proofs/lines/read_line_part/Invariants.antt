@@ -1,5 +1,4 @@
-use Rattle.std.proofs.Common.{◌≤◌, ◌≡◌}
-use Rattle.std.specs.Io.KnownBytes.{Keeps}
+use Rattle.office_wire.proofs.Names.{◌≤◌, ◌≡◌, Keeps}
 use Rattle.office_wire.proofs.lines.read_line_part.Given as goal
 
 abbrev pub invariant-tries : goal.invariant-tries

@@ -1,9 +1,4 @@
-use Rattle.std.proofs.Common.{◌≡◌, ℕ, ◌+◌, ◌-◌, ◌≤◌, List, ◌++◌, rules, arith, length, take, drop, sym, ap, ◌∙◌, subst, le_refl, drop_at, length-take-le}
-use Rattle.std.proofs.lemmas.Slice.{take-put_mid_below}
-use Rattle.std.specs.Io.KnownBytes.{Consumes}
-use Rattle.std.proofs.KnownBytes.{Consumes-trans}
-use borrow.Rule.Slice.PartMut.{put_mid, post_of}
-use lib.Seq.{take-add, take-append-le}
+use Rattle.office_wire.proofs.Names.{◌≡◌, ℕ, ◌+◌, ◌-◌, ◌≤◌, List, ◌++◌, rules, arith, length, take, drop, sym, ap, ◌∙◌, subst, le_refl, drop_at, length-take-le, take-put_mid_below, Consumes, Consumes-trans, put_mid, post_of, take-add, take-append-le}
 use Rattle.office_wire.proofs.reading.fill.Goals as goal
 
 -- after `n` bytes are written from `at` on, the beginning is the first `at` bytes followed by these

@@ -1,5 +1,4 @@
-use Rattle.std.proofs.Common.{◌≤◌, ◌-◌, ◌≡◌, length, take}
-use Rattle.std.specs.Io.KnownBytes.{Consumes}
+use Rattle.office_wire.proofs.Names.{◌≤◌, ◌-◌, ◌≡◌, length, take, Consumes}
 use Rattle.office_wire.proofs.reading.fill.Given as goal
 
 abbrev pub invariant-parts : goal.invariant-parts

@@ -1,8 +1,5 @@
-use Rattle.std.proofs.Common.{◌≡◌, List, ℕ, Ok, Err, ◌++◌, inl, inr, sym, ap, append_assoc, ◌∙◌}
-use Rattle.std.proofs.lemmas.Result.{err_from_is_err_and}
-use Rattle.office_wire.specs.Fields.{framing_of}
+use Rattle.office_wire.proofs.Names.{◌≡◌, List, ℕ, Ok, Err, ◌++◌, inl, inr, sym, ap, append_assoc, ◌∙◌, err_from_is_err_and, framing_of, print_request}
 use Rattle.office_wire.specs.declared.fault.ReadFault.TheVariants as fault
-use Rattle.httparse.specs.Grammar.{print_request}
 use Rattle.office_wire.proofs.AnyReaderLemmas.{well_formed}
 use Rattle.office_wire.proofs.RequestLemmas.{no_whole_head, no_whole_body, head_refused, misframed_refused, past_head_stands, head_stands, body_stands}
 use Rattle.office_wire.proofs.request.read_request.Goals as goal

@@ -1,7 +1,4 @@
-use Rattle.std.proofs.Common.{[], ◌∷◌, ◌++◌, Err, arith, sym, ap, subst, refl, inl, inr, ◌∙◌}
-use Rattle.std.proofs.lemmas.Result.{err_from_is_err_and}
-use Rattle.std.specs.Io.KnownBytes.{Appends}
-use Rattle.office_wire.specs.Runs.{Step, office_left, written}
+use Rattle.office_wire.proofs.Names.{[], ◌∷◌, ◌++◌, Err, arith, sym, ap, subst, refl, inl, inr, ◌∙◌, err_from_is_err_and, Appends, Step, office_left, written}
 use Rattle.office_wire.proofs.RunLemmas.{blocks_on, count_on, cut_none, cut_request, ends_no_line, if_known, office_push, sent_on, steps_push, told_no_line}
 use Rattle.office_wire.proofs.SendLemmas.{appends_more, appends_none}
 use Rattle.office_wire.proofs.runs.answer_blocks.Goals as goal

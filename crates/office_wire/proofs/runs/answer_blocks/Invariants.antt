@@ -1,6 +1,4 @@
-use Rattle.std.proofs.Common.{◌≡◌, ◌≤◌, ◌+◌, ℕ, List, length, Some}
-use Rattle.std.specs.Io.KnownBytes.{Appends}
-use Rattle.office_wire.specs.Runs.{AreSteps, Step, office_left, written}
+use Rattle.office_wire.proofs.Names.{◌≡◌, ◌≤◌, ◌+◌, ℕ, List, length, Some, Appends, AreSteps, Step, office_left, written}
 use Rattle.office_wire.proofs.RunLemmas.{HasRead}
 use Rattle.office_wire.proofs.runs.answer_blocks.Given as goal
 

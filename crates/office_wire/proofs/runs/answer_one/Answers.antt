@@ -1,7 +1,4 @@
-use Rattle.std.proofs.Common.{[], ◌∷◌, Err, ap, subst, refl}
-use Rattle.std.proofs.lemmas.Result.{err_from_is_err_and}
-use Rattle.std.specs.Io.KnownBytes.{Appends}
-use Rattle.office_wire.specs.Runs.{Step}
+use Rattle.office_wire.proofs.Names.{[], ◌∷◌, Err, ap, subst, refl, err_from_is_err_and, Appends, Step}
 use Rattle.office_wire.proofs.RunLemmas.{if_known}
 use Rattle.office_wire.proofs.SendLemmas.{appends_none}
 use Rattle.office_wire.proofs.runs.answer_one.Goals as goal

@@ -1,4 +1,4 @@
-use Rattle.std.proofs.lemmas.Result.{err_from_is_err_and}
+use Rattle.office_wire.proofs.Names.{err_from_is_err_and}
 use Rattle.office_wire.proofs.RunLemmas.{served_kept, served_unflushed}
 use Rattle.office_wire.proofs.runs.serve_one.Goals as goal
 

@@ -1,6 +1,4 @@
-use Rattle.std.proofs.Common.{◌-◌, length, take, drop, arith, ◌∙◌}
-use Rattle.std.proofs.lemmas.List.{take_all, length-drop}
-use Rattle.std.proofs.lemmas.Result.{err_from_is_err_and}
+use Rattle.office_wire.proofs.Names.{◌-◌, length, take, drop, arith, ◌∙◌, take_all, length-drop, err_from_is_err_and}
 use Rattle.office_wire.proofs.SendLemmas.{appends_more, appends_keep, front, take_on}
 use Rattle.office_wire.proofs.sending.send.Goals as goal
 

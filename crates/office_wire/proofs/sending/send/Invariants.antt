@@ -1,5 +1,4 @@
-use Rattle.std.proofs.Common.{◌≡◌, ◌≤◌, ◌-◌, length, take}
-use Rattle.std.specs.Io.KnownBytes.{Appends}
+use Rattle.office_wire.proofs.Names.{◌≡◌, ◌≤◌, ◌-◌, length, take, Appends}
 use Rattle.office_wire.proofs.sending.send.Given as goal
 
 abbrev pub invariant-parts : goal.invariant-parts

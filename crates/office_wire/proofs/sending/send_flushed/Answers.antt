@@ -1,5 +1,4 @@
-use Rattle.std.proofs.KnownBytes.{Appends-kept}
-use Rattle.std.proofs.lemmas.Result.{err_from_is_err_and}
+use Rattle.office_wire.proofs.Names.{Appends-kept, err_from_is_err_and}
 use Rattle.office_wire.proofs.SendLemmas.{whole_part}
 use Rattle.office_wire.proofs.sending.send_flushed.Goals as goal
 

@@ -1,7 +1,4 @@
-use Rattle.std.proofs.Common.{◌≡◌, ◌∙◌, ap, true}
-use Rattle.clap.specs.Words.{App, app_of}
-use Rattle.clap.specs.Simple.{app_of_fields}
-use Rattle.procure_config.specs.Jobs.{named, procure, subcommands}
+use Rattle.procure_config.proofs.Names.{◌≡◌, ◌∙◌, ap, true, App, app_of, app_of_fields, named, procure, subcommands}
 use Rattle.procure_config.proofs.CommandLine.{subcommand_added}
 use Rattle.procure_config.proofs.command_line.procure.Goals as goal
 

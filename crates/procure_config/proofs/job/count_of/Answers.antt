@@ -1,6 +1,4 @@
-use Rattle.std.proofs.Common.{arith, codes}
-use Rattle.std.specs.Str.Parse.{ExplainsUnsignedError, HasUnsignedDigitsIfOk, ParsesUnsigned}
-use Rattle.clap.specs.Words.{found_of}
+use Rattle.procure_config.proofs.Names.{arith, codes, ExplainsUnsignedError, HasUnsignedDigitsIfOk, ParsesUnsigned, found_of}
 use Rattle.procure_config.proofs.Numbers.{read_inside, read_nothing, read_outside}
 use Rattle.procure_config.proofs.job.count_of.Goals as goal
 

@@ -1,5 +1,4 @@
-use Rattle.std.proofs.Common.{◌∙◌, ap, sym}
-use Rattle.procure_config.specs.Jobs.{job_of_subcommand}
+use Rattle.procure_config.proofs.Names.{◌∙◌, ap, sym, job_of_subcommand}
 use Rattle.procure_config.proofs.CommandLine.{stated, is_right, is_taken, has_kind, memory_fault, no_job, nothing_there, parse_fault}
 use Rattle.procure_config.proofs.job.job_of.Goals as goal
 

@@ -1,4 +1,4 @@
-use Rattle.toml.proofs.Views.{table_get}
+use Rattle.procure_config.proofs.Names.{table_get}
 use Rattle.procure_config.proofs.settings.find.Goals as goal
 
 pub returns : goal.returns

@@ -1,4 +1,4 @@
-use Rattle.std.proofs.Common.{ap, Some, ◌∙◌}
+use Rattle.procure_config.proofs.Names.{ap, Some, ◌∙◌}
 use Rattle.procure_config.proofs.Forms.{line_kept}
 use Rattle.procure_config.proofs.settings.line_of.Goals as goal
 

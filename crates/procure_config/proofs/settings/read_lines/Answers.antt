@@ -1,4 +1,4 @@
-use Rattle.std.proofs.Common.{sym, ◌∙◌}
+use Rattle.procure_config.proofs.Names.{sym, ◌∙◌}
 use Rattle.procure_config.proofs.Lines.{one_more, no_more, all_done}
 use Rattle.procure_config.proofs.settings.read_lines.Goals as goal
 

@@ -1,7 +1,4 @@
-use Rattle.std.proofs.Common.{◌≡◌, ◌++◌, drop}
-use Rattle.std.specs.Prelude.{option_map}
-use Rattle.toml.specs.View.{items_view}
-use Rattle.procure_config.specs.Configuration.{lines_of}
+use Rattle.procure_config.proofs.Names.{◌≡◌, ◌++◌, drop, option_map, items_view, lines_of}
 use Rattle.procure_config.proofs.settings.read_lines.Given as goal
 
 abbrev pub invariant-values : goal.invariant-values

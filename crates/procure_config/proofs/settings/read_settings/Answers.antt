@@ -1,4 +1,4 @@
-use Rattle.std.proofs.Common.{inl, inr}
+use Rattle.procure_config.proofs.Names.{inl, inr}
 use Rattle.procure_config.proofs.Documents.{in_document, no_document, read_settings, read_fault}
 use Rattle.procure_config.proofs.settings.read_settings.Goals as goal
 

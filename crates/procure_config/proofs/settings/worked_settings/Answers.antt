@@ -1,8 +1,4 @@
-use Rattle.std.proofs.Common.{refl}
-use Rattle.std.specs.Str.{is_utf8, chars}
-use Rattle.toml.proofs.OnLiterals.{toml_on_literals}
-use Rattle.hex.proofs.OnLiterals.{hex_on_literals}
-use Rattle.procure_config.specs.Configuration.{lines_of, setting_or_fault, buyer_in, settings_of}
+use Rattle.procure_config.proofs.Names.{refl, is_utf8, chars, toml_on_literals, hex_on_literals, lines_of, setting_or_fault, buyer_in, settings_of}
 use Rattle.procure_config.proofs.settings.worked_settings.Goals as goal
 
 pub returns-clause-city : goal.returns-clause-city

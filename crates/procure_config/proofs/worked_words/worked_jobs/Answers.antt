@@ -1,6 +1,4 @@
-use Rattle.std.proofs.Common.{refl}
-use Rattle.clap.proofs.OnLiterals.{clap_on_literals}
-use Rattle.procure_config.specs.Jobs.{procure}
+use Rattle.procure_config.proofs.Names.{refl, clap_on_literals, procure}
 use Rattle.procure_config.proofs.worked_words.worked_jobs.Goals as goal
 
 pub returns-clause-desk : goal.returns-clause-desk

@@ -1,5 +1,4 @@
-use Rattle.std.proofs.Common.{◌≡◌, drop}
-use Rattle.office_base.specs.Tables.{find_lot}
+use Rattle.tender_core.proofs.Names.{◌≡◌, drop, find_lot}
 use Rattle.tender_core.proofs.ended.ends.Given as goal
 
 abbrev pub invariant-loop-row : goal.invariant-loop-row

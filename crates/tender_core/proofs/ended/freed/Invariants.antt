@@ -1,5 +1,4 @@
-use Rattle.std.proofs.Common.{◌≡◌, ◌+◌, ◌*◌, ◌≤◌, ◌^◌, drop, filter}
-use Rattle.tender_core.specs.Rules.Cancel.{is_open_lot, freed}
+use Rattle.tender_core.proofs.Names.{◌≡◌, ◌+◌, ◌*◌, ◌≤◌, ◌^◌, drop, filter, is_open_lot, freed}
 use Rattle.tender_core.proofs.ended.freed.Given as goal
 
 abbrev pub invariant-loop-row : goal.invariant-loop-row

@@ -1,5 +1,4 @@
-use Rattle.std.proofs.Common.{◌≡◌, ◌++◌, map, filter, drop}
-use Rattle.tender_core.specs.Rules.Cancel.{is_ended_envelope, drop_put}
+use Rattle.tender_core.proofs.Names.{◌≡◌, ◌++◌, map, filter, drop, is_ended_envelope, drop_put}
 use Rattle.tender_core.proofs.ended.push_drops.Given as goal
 
 abbrev pub invariant-loop-row : goal.invariant-loop-row

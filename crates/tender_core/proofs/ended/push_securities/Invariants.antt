@@ -1,6 +1,4 @@
-use Rattle.std.proofs.Common.{◌≡◌, ◌++◌, map, filter, drop}
-use Rattle.office_base.specs.Transitions.{security_returned}
-use Rattle.tender_core.specs.Rules.Cancel.{is_ended_security}
+use Rattle.tender_core.proofs.Names.{◌≡◌, ◌++◌, map, filter, drop, security_returned, is_ended_security}
 use Rattle.tender_core.proofs.ended.push_securities.Given as goal
 
 abbrev pub invariant-loop-row : goal.invariant-loop-row

@@ -1,6 +1,4 @@
-use Rattle.std.proofs.Common.{◌≡◌, filter, drop}
-use Rattle.std.specs.List.{list_any}
-use Rattle.tender_core.specs.Rules.Cancel.{is_open_lot, lacks_line}
+use Rattle.tender_core.proofs.Names.{◌≡◌, filter, drop, list_any, is_open_lot, lacks_line}
 use Rattle.tender_core.proofs.ended.some_lacks_line.Given as goal
 
 abbrev pub invariant-loop-row : goal.invariant-loop-row

@@ -1,5 +1,4 @@
-use Rattle.std.proofs.Common.{◌≡◌, take, map}
-use Rattle.tender_core.specs.Rules.Import.{imported_line_put}
+use Rattle.tender_core.proofs.Names.{◌≡◌, take, map, imported_line_put}
 use Rattle.tender_core.proofs.import.import_puts.Given as goal
 
 abbrev pub invariant-loop-row : goal.invariant-loop-row

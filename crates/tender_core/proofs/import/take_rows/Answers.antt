@@ -1,8 +1,4 @@
-use Rattle.std.proofs.Common.{◌≡◌, suc, add-one, ◌+◌, ◌*◌, ◌^◌, ◌∷◌, drop, subst, sym, ap, ◌∙◌, List, arith}
-use Rattle.std.proofs.Math.Seq.{drop-cons}
-use Rattle.tender_core.specs.Rules.Import.{cuts_nothing, cuts_too_much, passes_limit, cuts_below_zero}
-use Rattle.office_base.specs.declared.standing.Standing.{Standing}
-use Rattle.tender_core.specs.Walks.{AreNamed, AreAtMost}
+use Rattle.tender_core.proofs.Names.{◌≡◌, suc, add-one, ◌+◌, ◌*◌, ◌^◌, ◌∷◌, drop, subst, sym, ap, ◌∙◌, List, arith, drop-cons, cuts_nothing, cuts_too_much, passes_limit, cuts_below_zero, Standing, AreNamed, AreAtMost}
 use Rattle.tender_core.proofs.Walked.{named_after, after_row-bound, small_columns, next_row, next_found, all_weaker}
 use Rattle.tender_core.proofs.import.take_rows.Goals as goal
 

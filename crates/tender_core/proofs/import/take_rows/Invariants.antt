@@ -1,6 +1,4 @@
-use Rattle.std.proofs.Common.{◌≡◌, ◌+◌, ◌*◌, ◌^◌, drop, ◌||◌}
-use Rattle.tender_core.specs.Rules.Import.{after_rows, any_while_walking, cuts_nothing, cuts_too_much, passes_limit, cuts_below_zero}
-use Rattle.tender_core.specs.Walks.{AreNamed, AreAtMost}
+use Rattle.tender_core.proofs.Names.{◌≡◌, ◌+◌, ◌*◌, ◌^◌, drop, ◌||◌, after_rows, any_while_walking, cuts_nothing, cuts_too_much, passes_limit, cuts_below_zero, AreNamed, AreAtMost}
 use Rattle.tender_core.proofs.import.take_rows.Given as goal
 
 abbrev pub invariant-loop-row : goal.invariant-loop-row

@@ -1,5 +1,4 @@
-use Rattle.std.proofs.Common.{rules}
-use Rattle.std.proofs.lemmas.Fn.{filter_same}
+use Rattle.tender_core.proofs.Names.{rules, filter_same}
 use Rattle.tender_core.proofs.opening.keep_sealed.Goals as goal
 
 pub returns : goal.returns

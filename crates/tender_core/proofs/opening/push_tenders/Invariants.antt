@@ -1,5 +1,4 @@
-use Rattle.std.proofs.Common.{◌≡◌, ◌++◌, map, take}
-use Rattle.tender_core.specs.Rules.Open.{read_put}
+use Rattle.tender_core.proofs.Names.{◌≡◌, ◌++◌, map, take, read_put}
 use Rattle.tender_core.proofs.opening.push_tenders.Given as goal
 
 abbrev pub invariant-loop-tender : goal.invariant-loop-tender

@@ -1,5 +1,4 @@
-use Rattle.std.proofs.Common.{◌≡◌, ◌++◌, map, take}
-use Rattle.tender_core.specs.Rules.Publish.{reserving_line_put}
+use Rattle.tender_core.proofs.Names.{◌≡◌, ◌++◌, map, take, reserving_line_put}
 use Rattle.tender_core.proofs.publish.push_lines.Given as goal
 
 abbrev pub invariant-loop-lot : goal.invariant-loop-lot

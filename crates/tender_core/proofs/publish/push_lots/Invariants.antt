@@ -1,5 +1,4 @@
-use Rattle.std.proofs.Common.{◌≡◌, ◌++◌, map}
-use Rattle.tender_core.specs.Rules.Publish.{new_lot_put}
+use Rattle.tender_core.proofs.Names.{◌≡◌, ◌++◌, map, new_lot_put}
 use Rattle.tender_core.proofs.publish.push_lots.Given as goal
 
 abbrev pub invariant-loop-lot : goal.invariant-loop-lot

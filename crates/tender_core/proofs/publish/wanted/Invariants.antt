@@ -1,5 +1,4 @@
-use Rattle.std.proofs.Common.{◌≡◌, ◌+◌, ◌*◌, ◌≤◌, ◌^◌, drop}
-use Rattle.tender_core.specs.Rules.Publish.{wanted}
+use Rattle.tender_core.proofs.Names.{◌≡◌, ◌+◌, ◌*◌, ◌≤◌, ◌^◌, drop, wanted}
 use Rattle.tender_core.proofs.publish.wanted.Given as goal
 
 -- the sum so far and that of the remaining lots are the whole sum, and each lot added at most 10^12

@@ -1,9 +1,4 @@
-use Rattle.std.proofs.Common.{refl}
-use Rattle.std.specs.Str.{is_utf8, chars}
-use lib.Utf8.{encode}
-use Rattle.csv.proofs.OnLiterals.{csv_on_literals}
-use Rattle.office_values.specs.Fields.{is_id, is_text_line}
-use Rattle.tender_papers.specs.Budget.{rows_from}
+use Rattle.tender_papers.proofs.Names.{refl, is_utf8, chars, encode, csv_on_literals, is_id, is_text_line, rows_from}
 use Rattle.tender_papers.proofs.examples.worked_budgets.Goals as goal
 
 pub returns-clause-two_rows : goal.returns-clause-two_rows

@@ -1,6 +1,4 @@
-use Rattle.std.proofs.Common.{refl}
-use Rattle.std.specs.Fmt.{digits}
-use Rattle.office_values.specs.Moments.{moment_text, month_after, year_after}
+use Rattle.tender_papers.proofs.Names.{refl, digits, moment_text, month_after, year_after}
 use Rattle.tender_papers.proofs.examples.worked_printed_texts.Goals as goal
 
 pub returns-clause-ledger : goal.returns-clause-ledger

@@ -1,7 +1,4 @@
-use Rattle.std.proofs.Common.{refl}
-use Rattle.csv.proofs.OnLiterals.{csv_on_literals}
-use Rattle.tender_papers.specs.Files.{but_last, last_of}
-use Rattle.tender_papers.specs.Tender.{paper_below_head}
+use Rattle.tender_papers.proofs.Names.{refl, csv_on_literals, but_last, last_of, paper_below_head}
 use Rattle.tender_papers.proofs.examples.worked_tenders.Goals as goal
 
 pub returns-clause-corrected_sums : goal.returns-clause-corrected_sums

@@ -1,6 +1,4 @@
-use Rattle.std.proofs.Common.{◌≡◌, take}
-use Rattle.std.specs.List.{flat_map}
-use Rattle.tender_papers.specs.Listing.{listing_line}
+use Rattle.tender_papers.proofs.Names.{◌≡◌, take, flat_map, listing_line}
 use Rattle.tender_papers.proofs.listing.listing_text.Given as goal
 
 abbrev pub invariant-loop-row : goal.invariant-loop-row

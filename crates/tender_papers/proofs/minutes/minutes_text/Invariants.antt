@@ -1,6 +1,4 @@
-use Rattle.std.proofs.Common.{◌≡◌, ◌++◌, take}
-use Rattle.std.specs.List.{flat_map}
-use Rattle.tender_papers.specs.Minutes.{lot_lines, minutes_head}
+use Rattle.tender_papers.proofs.Names.{◌≡◌, ◌++◌, take, flat_map, lot_lines, minutes_head}
 use Rattle.tender_papers.proofs.minutes.minutes_text.Given as goal
 
 abbrev pub invariant-loop-lot : goal.invariant-loop-lot

@@ -1,7 +1,4 @@
-use Rattle.std.proofs.Common.{◌≡◌, ◌++◌, ◌∷◌, [], codes, take}
-use Rattle.std.specs.List.{flat_map}
-use Rattle.tender_papers.specs.Lines.{line}
-use Rattle.tender_papers.specs.Register.{register_line}
+use Rattle.tender_papers.proofs.Names.{◌≡◌, ◌++◌, ◌∷◌, [], codes, take, flat_map, line, register_line}
 use Rattle.tender_papers.proofs.register.register_text.Given as goal
 
 abbrev pub invariant-loop-row : goal.invariant-loop-row

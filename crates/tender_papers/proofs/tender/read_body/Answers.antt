@@ -1,8 +1,4 @@
-use Rattle.std.proofs.Common.{◌≡◌, ap, sym, ◌∙◌}
-use Rattle.csv.specs.Records.{fields_of}
-use Rattle.tender_papers.specs.Inside.Reading.{records_left}
-use Rattle.tender_papers.specs.Tender.{paper_below_head}
-use Rattle.tender_papers.specs.Inside.TenderParts.{tender_ended_by}
+use Rattle.tender_papers.proofs.Names.{◌≡◌, ap, sym, ◌∙◌, fields_of, records_left, paper_below_head, tender_ended_by}
 use Rattle.tender_papers.proofs.TenderSteps.{body_before, body_more, body_none, body_stops}
 use Rattle.tender_papers.proofs.tender.read_body.Goals as goal
 

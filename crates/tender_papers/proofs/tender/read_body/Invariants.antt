@@ -1,6 +1,4 @@
-use Rattle.std.proofs.Common.{◌≡◌, length}
-use Rattle.tender_papers.specs.Inside.Reading.{IsReading, records_left}
-use Rattle.tender_papers.specs.Tender.{paper_below_head}
+use Rattle.tender_papers.proofs.Names.{◌≡◌, length, IsReading, records_left, paper_below_head}
 use Rattle.tender_papers.proofs.TenderSteps.{body_before}
 use Rattle.tender_papers.proofs.tender.read_body.Given as goal
 

@@ -1,6 +1,4 @@
-use Rattle.std.proofs.Common.{ap, ◌∙◌}
-use Rattle.std.specs.Map.{values_of}
-use Rattle.office_base.specs.Pages.{rows_after}
+use Rattle.keyed_table.proofs.Names.{ap, ◌∙◌, values_of, rows_after}
 use Rattle.keyed_table.proofs.RowRanges.{values-after}
 use Rattle.keyed_table.proofs.table.Table.after.Goals as goal
 

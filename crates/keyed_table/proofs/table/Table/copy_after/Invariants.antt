@@ -1,6 +1,4 @@
-use Rattle.std.proofs.Common.{◌≡◌, ◌++◌, ◌≤◌, length}
-use Rattle.std.specs.Map.{values_of}
-use Rattle.office_base.specs.Pages.{rows_after}
+use Rattle.keyed_table.proofs.Names.{◌≡◌, ◌++◌, ◌≤◌, length, values_of, rows_after}
 use Rattle.keyed_table.proofs.table.Table.copy_after.Given as goal
 
 -- the copied rows and the remaining rows of the range are the rows after the key

@@ -1,4 +1,4 @@
-use Rattle.std.proofs.Common.{◌≡◌, map}
+use Rattle.keyed_table.proofs.Names.{◌≡◌, map}
 use Rattle.keyed_table.proofs.table.Table.copy_all.Given as goal
 
 abbrev pub invariant-loop-row : goal.invariant-loop-row

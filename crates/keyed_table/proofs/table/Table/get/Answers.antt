@@ -1,5 +1,4 @@
-use Rattle.std.proofs.Common.{ap, ◌∙◌, Some}
-use Rattle.office_base.specs.Rows.{row_at}
+use Rattle.keyed_table.proofs.Names.{ap, ◌∙◌, Some, row_at}
 use Rattle.keyed_table.proofs.KeyedTrees.{lookup-row_at}
 use Rattle.keyed_table.proofs.table.Table.get.Goals as goal
 

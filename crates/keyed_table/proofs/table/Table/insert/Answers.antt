@@ -1,7 +1,4 @@
-use Rattle.std.proofs.Common.{ap, sym, ◌∙◌}
-use Rattle.std.specs.BTreeMap.{get, insert_entry}
-use Rattle.std.specs.Map.{values_of}
-use Rattle.office_base.specs.Rows.{row_at, row_put}
+use Rattle.keyed_table.proofs.Names.{ap, sym, ◌∙◌, get, insert_entry, values_of, row_at, row_put}
 use Rattle.keyed_table.proofs.KeyedTrees.{lookup-row_at, values-insert_entry, own-insert_entry, known-put}
 use Rattle.keyed_table.proofs.table.Table.insert.Goals as goal
 

@@ -1,5 +1,4 @@
-use Rattle.std.proofs.Common.{subst, List}
-use Rattle.office_base.specs.Rows.{IsInOrder}
+use Rattle.keyed_table.proofs.Names.{subst, List, IsInOrder}
 use Rattle.keyed_table.proofs.RowRanges.{in_order-values}
 use Rattle.keyed_table.proofs.table.Table.keys_rise.Goals as goal
 

@@ -1,5 +1,4 @@
-use Rattle.std.proofs.Common.{ap, sym, ◌∙◌, List, subst}
-use Rattle.keyed_table.specs.Replacing.{with_old, IsThere}
+use Rattle.keyed_table.proofs.Names.{ap, sym, ◌∙◌, List, subst, with_old, IsThere}
 use Rattle.keyed_table.proofs.Undone.{back, there}
 use Rattle.keyed_table.proofs.table.Table.put.Goals as goal
 

@@ -1,7 +1,4 @@
-use Rattle.std.proofs.Common.{ap, ◌∙◌, subst, List}
-use Rattle.std.specs.List.{AllByRecursion}
-use Rattle.std.specs.Map.{values_of}
-use Rattle.keyed_table.specs.RowRanges.{rows_between}
+use Rattle.keyed_table.proofs.Names.{ap, ◌∙◌, subst, List, AllByRecursion, values_of, rows_between}
 use Rattle.keyed_table.proofs.RowRanges.{values-between}
 use Rattle.keyed_table.proofs.table.Table.range.Goals as goal
 

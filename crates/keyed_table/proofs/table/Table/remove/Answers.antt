@@ -1,7 +1,4 @@
-use Rattle.std.proofs.Common.{ap, ◌∙◌}
-use Rattle.std.specs.BTreeMap.{is_at}
-use Rattle.std.specs.Map.{values_of}
-use Rattle.office_base.specs.Rows.{row_drop}
+use Rattle.keyed_table.proofs.Names.{ap, ◌∙◌, is_at, values_of, row_drop}
 use Rattle.keyed_table.proofs.KeyedTrees.{values-remove_entry, own-remove_entry, known-drop}
 use Rattle.keyed_table.proofs.table.Table.remove.Goals as goal
 

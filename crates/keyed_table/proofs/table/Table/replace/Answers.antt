@@ -1,5 +1,4 @@
-use Rattle.std.proofs.Common.{List, IsSome, ap, sym, ◌∙◌, subst}
-use Rattle.office_base.specs.Rows.{row_at, row_put}
+use Rattle.keyed_table.proofs.Names.{List, IsSome, ap, sym, ◌∙◌, subst, row_at, row_put}
 use Rattle.keyed_table.proofs.KeyedTrees.{replaced, not_missed}
 use Rattle.keyed_table.proofs.table.Table.replace.Goals as goal
 use Rattle.keyed_table.proofs.table.Table.replace.Goals.{in-Some, in_default}

@@ -1,7 +1,4 @@
-use Rattle.std.proofs.Common.{◌∙◌, ap, sym, subst, ℕ, List, Some, cond, bytes_eq, length}
-use Rattle.std.specs.BTreeMap.{get_by_text}
-use Rattle.ocds_merge.specs.Inside.Step.{Lacks}
-use Rattle.ocds_merge.specs.Inside.Places.{IsIndexOf, IndexServes}
+use Rattle.ocds_merge.proofs.Names.{◌∙◌, ap, sym, subst, ℕ, List, Some, cond, bytes_eq, length, get_by_text, Lacks, IsIndexOf, IndexServes}
 use Rattle.ocds_merge.proofs.PlaceLaw.{index_push}
 use Rattle.ocds_merge.proofs.places.Places.add.Goals as goal
 

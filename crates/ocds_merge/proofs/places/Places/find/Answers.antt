@@ -1,7 +1,4 @@
-use Rattle.std.proofs.Common.{◌≡◌, ◌∙◌, ℕ, List, map, sym, subst, Option}
-use Rattle.serde_json.specs.Data.{Data}
-use Rattle.serde_json.specs.View.{view}
-use Rattle.ocds_merge.specs.Inside.Places.{IsPlaceOf, IsIndexOf, IndexServes, place_in}
+use Rattle.ocds_merge.proofs.Names.{◌≡◌, ◌∙◌, ℕ, List, map, sym, subst, Option, Data, view, IsPlaceOf, IsIndexOf, IndexServes, place_in}
 use Rattle.ocds_merge.proofs.PlaceLaw.{stands}
 use Rattle.ocds_merge.proofs.places.Places.find.Goals as goal
 

@@ -1,6 +1,4 @@
-use Rattle.std.proofs.Common.{◌≡◌, map, take}
-use Rattle.serde_json.specs.View.{view}
-use Rattle.ocds_release.specs.Awards.{ended_award}
+use Rattle.ocds_release.proofs.Names.{◌≡◌, map, take, view, ended_award}
 use Rattle.ocds_release.proofs.events.cancel.awards_of.Given as goal
 
 abbrev pub invariant-loop-award : goal.invariant-loop-award

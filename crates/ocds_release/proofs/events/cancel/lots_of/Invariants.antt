@@ -1,6 +1,4 @@
-use Rattle.std.proofs.Common.{◌≡◌, map, take}
-use Rattle.serde_json.specs.View.{view}
-use Rattle.ocds_release.specs.Events.Cancel.{cancelled_lot_data}
+use Rattle.ocds_release.proofs.Names.{◌≡◌, map, take, view, cancelled_lot_data}
 use Rattle.ocds_release.proofs.events.cancel.lots_of.Given as goal
 
 abbrev pub invariant-loop-lot : goal.invariant-loop-lot

@@ -1,7 +1,4 @@
-use Rattle.std.proofs.Common.{◌≡◌, map, take}
-use Rattle.serde_json.specs.View.{view}
-use Rattle.ocds_release.specs.Tenderers.{tenderer_shown}
-use Rattle.ocds_release.specs.Events.Open.{tenderer_reference_of}
+use Rattle.ocds_release.proofs.Names.{◌≡◌, map, take, view, tenderer_shown, tenderer_reference_of}
 use Rattle.ocds_release.proofs.events.open.references_of.Given as goal
 
 abbrev pub invariant-loop-row : goal.invariant-loop-row

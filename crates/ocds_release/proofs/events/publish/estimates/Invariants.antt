@@ -1,6 +1,4 @@
-use Rattle.std.proofs.Common.{◌≡◌, ◌≤◌, ◌+◌, ◌*◌, drop}
-use Rattle.office_base.specs.Sums.{sum_over}
-use Rattle.ocds_release.specs.Events.Publish.{estimate_of}
+use Rattle.ocds_release.proofs.Names.{◌≡◌, ◌≤◌, ◌+◌, ◌*◌, drop, sum_over, estimate_of}
 use Rattle.ocds_release.proofs.events.publish.estimates.Given as goal
 
 abbrev pub invariant-loop-lot : goal.invariant-loop-lot

@@ -1,6 +1,4 @@
-use Rattle.std.proofs.Common.{◌≡◌, ◌++◌, map, drop}
-use Rattle.serde_json.specs.View.{view}
-use Rattle.ocds_release.specs.Events.Publish.{items_of_lots}
+use Rattle.ocds_release.proofs.Names.{◌≡◌, ◌++◌, map, drop, view, items_of_lots}
 use Rattle.ocds_release.proofs.events.publish.items_of.Given as goal
 
 abbrev pub invariant-loop-lot : goal.invariant-loop-lot

@@ -1,6 +1,4 @@
-use Rattle.std.proofs.Common.{◌≡◌, map, take}
-use Rattle.serde_json.specs.View.{view}
-use Rattle.ocds_release.specs.Events.Publish.{published_lot}
+use Rattle.ocds_release.proofs.Names.{◌≡◌, map, take, view, published_lot}
 use Rattle.ocds_release.proofs.events.publish.lots_of.Given as goal
 
 abbrev pub invariant-loop-lot : goal.invariant-loop-lot

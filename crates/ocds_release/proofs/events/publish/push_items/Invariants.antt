@@ -1,6 +1,4 @@
-use Rattle.std.proofs.Common.{◌≡◌, ◌++◌, map, take}
-use Rattle.serde_json.specs.View.{view}
-use Rattle.ocds_release.specs.Events.Publish.{published_item}
+use Rattle.ocds_release.proofs.Names.{◌≡◌, ◌++◌, map, take, view, published_item}
 use Rattle.ocds_release.proofs.events.publish.push_items.Given as goal
 
 abbrev pub invariant-loop-item : goal.invariant-loop-item

@@ -1,7 +1,4 @@
-use Rattle.std.proofs.Common.{◌≡◌, map, drop}
-use Rattle.ocds_release.specs.Objects.{with_entries}
-use Rattle.ocds_release.specs.Inside.Parts.{entry_of}
-use Rattle.ocds_release.specs.Inside.Built.{members_in}
+use Rattle.ocds_release.proofs.Names.{◌≡◌, map, drop, with_entries, entry_of, members_in}
 use Rattle.ocds_release.proofs.object.Object.put.Given as goal
 
 abbrev pub invariant-loop-name : goal.invariant-loop-name

@@ -1,5 +1,4 @@
-use Rattle.std.proofs.Common.{ap, ◌∙◌}
-use Rattle.office_base.specs.declared.ledger.LineAmounts.{LineAmounts}
+use Rattle.office_base.proofs.Names.{ap, ◌∙◌, LineAmounts}
 use Rattle.office_base.proofs.JoinedSums.{joined_sums}
 use Rattle.office_base.proofs.PotsFound.{row_answer, row_fault}
 use Rattle.office_base.proofs.shelf.Lookups.sum_line.Goals as goal

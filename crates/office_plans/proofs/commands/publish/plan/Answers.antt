@@ -1,41 +1,48 @@
-use Rattle.office_plans.proofs.Names.{◌≡◌, List, map, ℕ, ◌∙◌, ap, refl, subst, sym, Publish, NewLot, NewNotice, RowsAreKept, Looks, Meaning, Tables, line_key, time_of, given_by, line_of_new, lines_named, publish_named, id_cmp, PublishesAgree, publish_puts, publish_rows, publish_tests, Asking, PublishRows}
-use Rattle.office_plans.proofs.NamedLines.{lines_agree}
-use Rattle.office_plans.proofs.Numbered.{numbered_notice}
-use Rattle.office_plans.proofs.Publishing.{IsTested, not_planned, puts_on, refused_on, three_looks}
+use Rattle.office_plans.proofs.Names.{◌≡◌, Some, ◌∙◌, ap, sym, is_some, Publish, used_notice}
+use Rattle.office_plans.proofs.Publishing.{two_looks}
+use Rattle.office_plans.proofs.Telling.{fault_told, later_told, used_planned, used_told}
+use Rattle.office_plans.proofs.UsedFiles.{notice_new, notice_used, none_if, only_notice}
 use Rattle.office_plans.proofs.commands.publish.plan.Goals as goal
 
--- The tests of the rule are the tests on the loaded rows.
-rule : RowsAreKept id_cmp line_key → PublishesAgree → (asking : Asking) (notice : List ℕ) (content : NewNotice) → IsTested asking (Publish notice content) (λ (s : Tables). publish_named s notice content.lots) (λ (rows : PublishRows). rows.clock)
-    (λ (rows : PublishRows) (t : ℕ). publish_tests rows t content)
-rule kept laws asking notice content = record {
-  clock = λ s. refl;
-  tested = λ s. sym
-      (laws.tests (lines_named s (map line_of_new content.lots)) s.lines (publish_rows s notice) (time_of (given_by asking s (Publish notice content))) content
-      (lines_agree kept s line_of_new content.lots));
-}
-
--- Rows that were loaded by the borrowed lots of a notice are those of its lots.
-loaded : {S : Type 0} (M : Meaning S) (a b : S) (rows : PublishRows) (notice : List ℕ) (borrowed lots : List NewLot) → borrowed ≡ lots
-    → Looks M a b (λ (s : Tables). rows ≡ publish_named s notice borrowed) → Looks M a b (λ (s : Tables). rows ≡ publish_named s notice lots)
-loaded M a b rows notice borrowed lots same looked = subst (λ (ls : List NewLot). Looks M a b (λ (s : Tables). rows ≡ publish_named s notice ls)) same looked
-
-pub returns-in-Some : goal.returns-in-Some
-returns-in-Some g c =
+pub returns-in_err-held-clause-tells : goal.returns-in_err-held-clause-tells
+returns-in_err-held-clause-tells g c =
     let a = c.args in
-    let looked = loaded _ _ _ _ a.notice _ a.content.lots c.as_slice.ensures.value c.in_ok-rows.ensures in
-    not_planned (rule c.rows_are_kept.ensures c.publishes_agree.ensures a.asking.now a.notice a.content) _ _ c.time-t.ensures _ a.publisher.now _ _ _ _ looked c.requires c.refusal.ensures c.in-Some.is
+    fault_told _ _ _ a.asking.now (Publish a.notice a.content) _ _ c.in_err-held.ensures.1
 
-pub returns : goal.returns
-returns g c =
+pub returns-in_err-why-clause-tells : goal.returns-in_err-why-clause-tells
+returns-in_err-why-clause-tells g c =
     let a = c.args in
-    let ruled = rule c.rows_are_kept.ensures c.publishes_agree.ensures a.asking.now a.notice a.content in
-    let moment = c.time-t.ensures in
-    let looked = loaded _ _ _ _ a.notice _ a.content.lots c.as_slice.ensures.value c.in_ok-rows.ensures in
-    three_looks _ c.looks_follow.ensures _ _ _ _ _ _ _ _ looked c.in_ok-found.ensures.0 c.published.ensures
-    (λ s are found joined.
-    let allowed = refused_on ruled _ _ moment _ c.requires c.refusal.ensures s are ∙ c.in_default.is in
-    let puts = puts_on ruled _ _ moment (λ (rows : PublishRows) (t : ℕ). publish_puts rows t a.notice a.content) _ c.in_ok-puts.ensures.puts s are
-    (sym (c.publishes_agree.ensures.puts (lines_named s (map line_of_new a.content.lots)) s.lines (publish_rows s a.notice)
-    (time_of (given_by a.asking.now s (Publish a.notice a.content))) a.notice a.content (lines_agree c.rows_are_kept.ensures s line_of_new a.content.lots))) in
-    let made = c.in_ok-release.ensures.release s are in
-    joined (given_by a.asking.now s (Publish a.notice a.content)) refl c.as_slice.ensures.differ allowed (sym found ∙ c.if-found.false) puts (c.in_ok-text.ensures s (numbered_notice made a.notice refl) (ap (λ (rows : PublishRows). rows.clock) are)) made)
+    later_told _ _ _ _ a.asking.now (Publish a.notice a.content) _ _ c.in_ok-held.ensures.1.counted c.in_err-why.ensures.1
+
+pub returns-then-used-clause-looks : goal.returns-then-used-clause-looks
+returns-then-used-clause-looks g c =
+    let a = c.args in
+    used_planned _ _ _ a.asking.now (Publish a.notice a.content) _
+    (two_looks _ c.looks_follow.ensures _ _ _ _ _ _ c.in_ok-held.ensures.0 c.in_ok-why.ensures.0
+    (λ s held why.
+    notice_used a.asking.now s a.notice a.content c.requires (sym (ap is_some held) ∙ sym c.is_some-used.ensures ∙ c.if-used.true)
+    ∙ ap (λ lots. Some (used_notice lots s)) (sym c.as_slice.ensures.value) ∙ ap Some (sym why)))
+    a.publisher.now
+
+pub returns-then-used-clause-tells : goal.returns-then-used-clause-tells
+returns-then-used-clause-tells g c =
+    let a = c.args in
+    used_told _ _ _ a.asking.now (Publish a.notice a.content) _
+    (two_looks _ c.looks_follow.ensures _ _ _ _ _ _ c.in_ok-held.ensures.0 c.in_ok-why.ensures.0
+    (λ s held why.
+    notice_used a.asking.now s a.notice a.content c.requires (sym (ap is_some held) ∙ sym c.is_some-used.ensures ∙ c.if-used.true)
+    ∙ ap (λ lots. Some (used_notice lots s)) (sym c.as_slice.ensures.value) ∙ ap Some (sym why)))
+
+pub returns-clause-looks : goal.returns-clause-looks
+returns-clause-looks g c =
+    let a = c.args in
+    two_looks _ c.looks_follow.ensures _ _ _ _ _ _ c.in_ok-held.ensures.0 c.plan_new.ensures
+    (λ s held planned. planned (sym held ∙ none_if _ (sym c.is_some-used.ensures ∙ c.if-used.false)))
+
+pub returns-clause-tells : goal.returns-clause-tells
+returns-clause-tells g c =
+    let a = c.args in
+    λ honest s held why refused small.
+    let is = c.in_ok-held.ensures.0.1 (c.plan_new.ensures.0.before honest) s held in
+    absurd (notice_new a.asking.now s a.notice a.content c.requires (sym (ap is_some is) ∙ sym c.is_some-used.ensures ∙ c.if-used.false)
+    (refused ∙ ap Some (only_notice a.notice a.content why small)))

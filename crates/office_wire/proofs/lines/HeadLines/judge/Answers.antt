@@ -1,9 +1,4 @@
-use Rattle.std.proofs.Common.{◌≡◌, ◌++◌, ◌∷◌, [], ℕ, List, length, take, drop, sym, ap, subst, arith, rules, ◌∙◌, ◌-◌, false}
-use Rattle.std.specs.Prelude.{IsTrue}
-use Rattle.std.proofs.lemmas.Bool.{eqb-true}
-use Rattle.std.proofs.lemmas.List.{take_all, length-drop, nil_from_length}
-use Rattle.httparse.specs.Grammar.{HasNoRequest, LineEnd, print_end}
-use Rattle.office_wire.specs.Head.{skip_empty}
+use Rattle.office_wire.proofs.Names.{◌≡◌, ◌++◌, ◌∷◌, [], ℕ, List, length, take, drop, sym, ap, subst, arith, rules, ◌∙◌, ◌-◌, false, IsTrue, eqb-true, take_all, length-drop, nil_from_length, HasNoRequest, LineEnd, print_end, skip_empty}
 use Rattle.office_wire.proofs.HeadLemmas.{no_head_push, no_line_feed, no_head_blank, blank_on}
 use Rattle.office_wire.proofs.lines.HeadLines.judge.Goals as goal
 

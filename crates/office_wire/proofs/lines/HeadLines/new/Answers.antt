@@ -1,4 +1,4 @@
-use Rattle.std.proofs.Common.{arith}
+use Rattle.office_wire.proofs.Names.{arith}
 use Rattle.office_wire.proofs.HeadLemmas.{skip_nil}
 use Rattle.office_wire.proofs.lines.HeadLines.new.Goals as goal
 

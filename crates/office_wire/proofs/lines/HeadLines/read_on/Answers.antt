@@ -1,5 +1,4 @@
-use Rattle.std.proofs.Common.{◌≡◌, ◌<◌, ◌++◌, length, arith, false}
-use Rattle.httparse.specs.Grammar.{HasNoRequest}
+use Rattle.office_wire.proofs.Names.{◌≡◌, ◌<◌, ◌++◌, length, arith, false, HasNoRequest}
 use Rattle.office_wire.proofs.HeadLemmas.{no_head_quiet}
 use Rattle.office_wire.proofs.ReadLemmas.{reads_on}
 use Rattle.office_wire.proofs.lines.HeadLines.read_on.Goals as goal
