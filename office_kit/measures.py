@@ -66,7 +66,8 @@ class Office:
         tenth = max(1, len(texts) // 10)
         parts = texts[:tenth], texts[tenth:-tenth], texts[max(tenth, len(texts) - tenth):]
         times = [self.took(part) for part in parts if part]
-        return times[-1] / times[0]
+        # (What a host takes from a virtual machine isn't counted as used, and may be all of a short time.)
+        return times[-1] / max(times[0], 1e-9)
 
 
 class InFile(Office):

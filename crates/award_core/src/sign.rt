@@ -4,7 +4,7 @@ ghost use Rattle.office_values.specs.declared.refusal.Refusal.TheVariants.{Unava
 ghost use Rattle.office_base.specs.Deciding.{Decides};
 ghost use Rattle.office_base.specs.Transitions.{put_if};
 ghost use Rattle.office_base.specs.Rules.{first_of};
-ghost use Rattle.award_core.specs.Rules.Sign.{CantSign, contract_row, is_missing, performance_is_too_small, isnt_asked, performance_put, performance_row, sign_lacks, sign_tests, sign_puts};
+ghost use Rattle.award_core.specs.Rules.Sign.{CantSign, contract_row, is_missing, performance_is_too_small, isnt_asked, performance_put, performance_made, sign_lacks, sign_tests, sign_puts};
 
 use crate::fail::standing_refusal;
 use crate::securities::push_returned;
@@ -96,8 +96,8 @@ pub fn refusal(t: Moment, rows: &SignRows, security: &Option<NamedSecurity>) -> 
 }
 
 // The performance security of this award's contract, held.
-fn performance_row(award: &AwardRow, named: &NamedSecurity) -> PerformanceRow
-    ensures { result ≡ performance_row award.now named.now }
+fn performance_made(award: &AwardRow, named: &NamedSecurity) -> PerformanceRow
+    ensures { result ≡ performance_made award.now named.now }
 {
     PerformanceRow {
         contract: award.award,
@@ -113,7 +113,7 @@ fn push_performance(made: &mut Vec<Put>, award: &AwardRow, security: &Option<Nam
     ensures { made.new.items ≡ made.old.items ++ put_if (performance_put award.now) security.now }
 {
     if let Some(named) = security {
-        made.push_reserved(Put::Performance(performance_row(award, named)));
+        made.push_reserved(Put::Performance(performance_made(award, named)));
     }
 }
 

@@ -111,7 +111,7 @@ pub use Rattle.office_machine.specs.QueryOrder.{FirstAnswersQuery, LeastAnswersQ
 pub use Rattle.office_machine.specs.Readings.{Readings}
 pub use Rattle.office_machine.specs.References.{OfReceipt, has_rows, is_named, is_there, OfLine, OfNotice, OfLot, OfAward, Parent}
 pub use Rattle.office_machine.specs.Registered.{tenderer_after, tenderer_by, TenderersAreKept}
-pub use Rattle.office_machine.specs.Releases.{is_for, published_by, ReleasesArePublished, AreCounted, ReleasesAreCounted, AreNumbered, ReleasesAreNumbered, MomentsNeverFall, ReleasesAreInTime}
+pub use Rattle.office_machine.specs.Releases.{names_notice, published_by, ReleasesArePublished, AreCounted, ReleasesAreCounted, AreNumbered, ReleasesAreNumbered, MomentsNeverFall, ReleasesAreInTime}
 pub use Rattle.office_machine.specs.Replies.{EvaluatedLot, EvaluatedTender, EvaluationSeen, winning, Reply, OpenedAll, Received, Awarded, Tender, Registry, Minutes, release_of, release_of_contract, left_of, modify_reply, Withdrew, state_after, OwnTendersSeen}
 pub use Rattle.office_machine.specs.Requests.{Demand, Asks, Looks, Request, given_by_request, office_by, accepted_by, demand_office, demand_accepted, office_after, accepted_with, IsDemand, RunsReach, StepsReach, reply_by, AreRequests, all_accepted, reply_to}
 pub use Rattle.office_machine.specs.Rule.{Rule, sealed_tenders, sealed_tender, has_seal_and_lot}

@@ -10,13 +10,13 @@ use Rattle.office_machine.specs.Counted.{releases_in}
 use Rattle.office_machine.specs.Machine.{Means, Given, Reaches, publication}
 
 -- There is a notice, and it is this one.
-abbrev pub is_for : List ℕ → Option (List ℕ) → Bool
-is_for notice o = holds_of (λ n. same_id n notice) o
+abbrev pub names_notice : List ℕ → Option (List ℕ) → Bool
+names_notice notice o = holds_of (λ n. same_id n notice) o
 
 -- The number of releases that accepted commands published for a notice.
 abbrev pub releases_by : List Given → List ℕ → ℕ
 releases_by [] notice = 0
-releases_by (x ∷ xs) notice = cond (is_for notice (published_for x.before x.command)) 1 0 + releases_by xs notice
+releases_by (x ∷ xs) notice = cond (names_notice notice (published_for x.before x.command)) 1 0 + releases_by xs notice
 
 -- The notice's row counts the releases that the commands published for it, and there are at most `release_limit`.
 pub record AreCounted (notice : List ℕ) (xs : List Given) (t : Tables) : Type 0 where

@@ -20,22 +20,22 @@ abbrev pub Member : Type 0
 Member = List ℕ × Data
 
 -- A number or a text in this form, or null if it is absent.
-abbrev pub or_null : {X : Type 0} → (X → Data) → Option X → Data
-or_null form None = null
-or_null form (Some x) = form x
+abbrev pub value_or_null : {X : Type 0} → (X → Data) → Option X → Data
+value_or_null form None = null
+value_or_null form (Some x) = form x
 
 abbrev pub data_of : Plain → Data
 data_of (Number n) = number (unsigned n)
-data_of (Count count) = or_null (λ n. number (unsigned n)) count
+data_of (Count count) = value_or_null (λ n. number (unsigned n)) count
 data_of (Truth truth) = boolean truth
 data_of (Total total) = number (unsigned total)
 data_of (Id id) = string id
-data_of (Named id) = or_null string id
+data_of (Named id) = value_or_null string id
 data_of (Moment second) = string (moment_text second)
-data_of (Since second) = or_null string (option_map moment_text second)
+data_of (Since second) = value_or_null string (option_map moment_text second)
 data_of (Digest digest) = string (encode_lower digest)
 data_of (Text text) = string text.now
-data_of (Remark text) = or_null string (option_map (λ t. t.now) text)
+data_of (Remark text) = value_or_null string (option_map (λ t. t.now) text)
 
 abbrev pub entry_of : Bor (List ℕ) × Plain → Member
 entry_of m = (m.0.now, data_of m.1)
@@ -80,13 +80,13 @@ abbrev pub text_entry : List ℕ → List ℕ → Member
 text_entry name text = (name, string text)
 
 abbrev pub named_entry : List ℕ → Option (List ℕ) → Member
-named_entry name text = (name, or_null string text)
+named_entry name text = (name, value_or_null string text)
 
 abbrev pub number_entry : List ℕ → ℕ → Member
 number_entry name n = (name, number (unsigned n))
 
 abbrev pub count_entry : List ℕ → Option ℕ → Member
-count_entry name count = (name, or_null (λ n. number (unsigned n)) count)
+count_entry name count = (name, value_or_null (λ n. number (unsigned n)) count)
 
 abbrev pub date_entry : List ℕ → ℕ → Member
 date_entry name second = text_entry name (moment_text second)

@@ -20,7 +20,7 @@ first_cuts (row ∷ rows) line = cond (same_id row.line line) (is_cut row.kind) 
 abbrev pub cuts_lost_line : Tables → List BudgetRow → BudgetRow → Bool
 cuts_lost_line s file row = first_cuts file row.line && not (is_some (line_at row.line s))
 
--- The refusal of a command whose identifier is used, if this tells whether a budget line that it needs doesn't exist.
+-- The refusal of a command whose identifier is used. The argument: does a budget line that it needs not exist?
 abbrev pub refusal_if_used : Bool → Refusal
 refusal_if_used lost = cond lost (NoSuch Line) Exists
 

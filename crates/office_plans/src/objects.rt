@@ -3,7 +3,7 @@ ghost use Rattle.std.specs.Prelude.{◌≡◌, true, List, ◌++◌, IfOk, OnOk,
 ghost use Rattle.std.specs.List.{flat_map};
 ghost use Rattle.serde_json.specs.Data.{array, string};
 ghost use Rattle.serde_json.specs.View.{items_of};
-ghost use Rattle.office_plans.specs.Json.{AddsValue, Member, data_of, entry_of, json_object, member_tokens, names_rise, object_text, or_null, with_objects};
+ghost use Rattle.office_plans.specs.Json.{AddsValue, Member, data_of, entry_of, json_object, member_tokens, names_rise, object_text, value_or_null, with_objects};
 
 use json::Writer;
 use office_values::given::GivenNumber;
@@ -45,7 +45,7 @@ pub fn number_of(number: Option<GivenNumber>) -> Option<u64>
 
 // Writes a text, or null.
 fn write_text(out: &mut Writer, text: Option<&str>) -> Result<(), AllocError>
-    ensures { OnOk result (AddsValue out.old out.new (or_null string (option_map (λ t. t.now) text.entry))) }
+    ensures { OnOk result (AddsValue out.old out.new (value_or_null string (option_map (λ t. t.now) text.entry))) }
 {
     match text {
         Some(text) => out.string(text),
@@ -65,7 +65,7 @@ fn write_moment(out: &mut Writer, moment: Option<Moment>) -> Result<(), AllocErr
 
 // Writes an identifier, or null.
 fn write_id(out: &mut Writer, id: Option<Id>) -> Result<(), AllocError>
-    ensures { OnOk result (AddsValue out.old out.new (or_null string id)) }
+    ensures { OnOk result (AddsValue out.old out.new (value_or_null string id)) }
 {
     match id {
         Some(id) => out.string(id.as_str()),

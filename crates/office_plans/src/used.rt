@@ -67,7 +67,7 @@ fn some_on_no_line<H: Lookups>(shelf: &mut H, lots: &[NewLot]) -> Result<bool, S
     Ok(false)
 }
 
-// The refusal, if this tells whether a budget line doesn't exist.
+// The refusal of a command whose identifier is used. The argument: does a budget line that it needs not exist?
 fn refusal_if_used(lost: bool) -> Refusal
     ensures { result ≡ refusal_if_used lost }
 {

@@ -8,7 +8,7 @@ ghost use Rattle.office_base.specs.Deciding.{Decides};
 ghost use Rattle.office_base.specs.Rows.{holds_of};
 ghost use Rattle.office_base.specs.Rules.{first_of};
 ghost use Rattle.office_base.specs.Transitions.{put_if, receipt_clock};
-ghost use Rattle.tender_core.specs.Rules.Present.{is_sealed_by, asks_security, is_too_small, received, security_row, security_put, seal_puts, received_puts, present_lacks, present_tests, present_puts};
+ghost use Rattle.tender_core.specs.Rules.Present.{is_sealed_by, asks_security, is_too_small, received, security_made, security_put, seal_puts, received_puts, present_lacks, present_tests, present_puts};
 
 use crate::receipts::{length_of, next_receipt, receipt_clock};
 use crate::tenders::{is_by, is_in_time};
@@ -148,8 +148,8 @@ fn received(receipt: &Receipt, security: &Option<NamedSecurity>, sealed: &Sealed
 }
 
 // The row of the security: held if the tender is in time, and returned if it is late.
-fn security_row(receipt: &Receipt, named: &NamedSecurity) -> SecurityRow
-    ensures { result ≡ security_row receipt.now.clock (Tenderer receipt.now.tenderer) receipt.now.notice receipt.now.lot receipt.now.in_time named.now }
+fn security_made(receipt: &Receipt, named: &NamedSecurity) -> SecurityRow
+    ensures { result ≡ security_made receipt.now.clock (Tenderer receipt.now.tenderer) receipt.now.notice receipt.now.lot receipt.now.in_time named.now }
 {
     let state = if receipt.in_time {
         SecurityState::Held
@@ -196,7 +196,7 @@ fn push_security(
     ensures fault { IfErr result (λ e. e ≡ Unavailable) }
 {
     if let Some(named) = security {
-        made.push(Put::Security(security_row(receipt, named)))?;
+        made.push(Put::Security(security_made(receipt, named)))?;
     }
     Ok(())
 }

@@ -63,11 +63,11 @@ contract_row t a tenderer = record {
 }
 
 -- the performance security of the contract, held
-abbrev pub performance_row : AwardRow → NamedSecurity → PerformanceRow
-performance_row a named = record { contract = a.award; reference = named.reference; amount = named.amount; state = Held }
+abbrev pub performance_made : AwardRow → NamedSecurity → PerformanceRow
+performance_made a named = record { contract = a.award; reference = named.reference; amount = named.amount; state = Held }
 
 abbrev pub performance_put : AwardRow → NamedSecurity → Put
-performance_put a named = puts.Performance (performance_row a named)
+performance_put a named = puts.Performance (performance_made a named)
 
 -- the changes of the award, its lot, the contract, the notice and the clock, and those that return the tender securities of the lot
 abbrev pub sign_parts : ClockRow → ℕ → AwardRow → NoticeRow → LotRow → Option EnvelopeRow → List SecurityRow → List Put

@@ -3,7 +3,7 @@ pub mod Fates
 pub mod Gentle
 use Rattle.office_machine.proofs.Names.{max, ℕ, List, Option, IsSome, ◌+◌, [], ◌∷◌, refl, is_some, ◌≡◌, Bool, true, false, Some, None, option_map, sym, ◌∙◌, ap, arith, subst, length, Present, NamedSecurity, Caller, Public, Clerk, Tenderer, tenderer_of, is_tenderer, notice_at, lot_at, Tables, tenderer_at, security_at, after_puts, holds_of, is_in_time, put_if, ClockRow, received_puts, seal_puts, security_put, received, ChosenTender, Pairs, is_theirs, command_tests, IsRegistered}
 use Rattle.office_base.specs.declared.puts.Put.TheVariants as puts
-use Rattle.tender_core.specs.Rules.Present.{security_row}
+use Rattle.tender_core.specs.Rules.Present.{security_made}
 use Rattle.office_machine.proofs.Commands.Tail.{HasTail, front, quiet}
 use Rattle.office_machine.proofs.Commands.Footprint.{Envelopes, Seals, Securities}
 use Rattle.office_machine.proofs.Worlds.WorldsPut.{TwoEnvelopes, TwoSeals, plain-if, PutPair, Plain, plain_pairs, pairs-append}
@@ -55,8 +55,8 @@ module _ (s u : Tables) (g : Grows s u) where
 security_put_there : (digest : List ℕ → List ℕ) (clock : ClockRow) (t : ℕ) (caller : Caller) (notice lot : List ℕ) (security : Option NamedSecurity) (bytes : List ℕ) (in_time : Bool) (s : Tables) → is_some security ≡ true
     → IsSome (security_at (clock.receipts + 1) (after_puts (received_puts digest clock t caller notice lot security bytes in_time) s))
 security_put_there digest clock t caller notice lot None bytes in_time s e = cc
-security_put_there digest clock t caller notice lot (Some named) bytes true s e = ap is_some (found_put keyed.securities s.securities (security_row clock caller notice lot true named))
-security_put_there digest clock t caller notice lot (Some named) bytes false s e = ap is_some (found_put keyed.securities s.securities (security_row clock caller notice lot false named))
+security_put_there digest clock t caller notice lot (Some named) bytes true s e = ap is_some (found_put keyed.securities s.securities (security_made clock caller notice lot true named))
+security_put_there digest clock t caller notice lot (Some named) bytes false s e = ap is_some (found_put keyed.securities s.securities (security_made clock caller notice lot false named))
 
 -- a tenderer who may submit a tender is registered
 presenter : (caller : Caller) (s : Tables) → is_tenderer caller ≡ true → IsRegistered caller s.tenderers → IsSome (tenderer_at (tenderer_of caller) s)

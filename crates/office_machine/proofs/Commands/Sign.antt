@@ -4,7 +4,7 @@ pub mod Fates
 pub mod Gentle
 use Rattle.office_machine.proofs.Names.{max, ℕ, Option, option_and_then, IsSome, [], ◌∷◌, refl, ◌≡◌, Bool, true, false, List, ◌++◌, map, filter, Some, None, is_some, option_map, sym, ◌∙◌, ap, arith, subst, not, ◌||◌, AllByRecursion, Sign, NamedSecurity, securities_of_lot, IsSorted, award_at, contract_at, Tables, envelope_at, tenderer_at, after_puts, securities_of_award, notice_of_award, lot_of_award, envelope_of_award, EnvelopeRow, with_next_release, has_all_releases, security_returned, put_if, securities_returned, is_held_security, clock_put, NoticeRow, LotRow, SecurityRow, AwardRow, ClockRow, Put, sign_tests, sign_rows, sign_puts, sign_parts, tenderer_in, performance_put, signed_award, contracted_lot, contract_row, sign_lacks, ChosenTender, Pairs, HaveParents}
 use Rattle.office_base.specs.declared.puts.Put.TheVariants as puts
-use Rattle.award_core.specs.Rules.Sign.{performance_row}
+use Rattle.award_core.specs.Rules.Sign.{performance_made}
 use Rattle.office_machine.proofs.Worlds.WorldsPut.{Alike, plain-map, plain-append, plain-if, IsPlain, PutPair, blind-option, plain_pairs}
 use Rattle.office_machine.proofs.Parents.NoOrphans.{contract_is_new, price_is_reserved, winner_has_security}
 use Rattle.office_machine.proofs.Parents.ParentsPut.{Grows, grows-puts, AllParents, envelope_still, award_still, parents-append, parents-if}
@@ -92,8 +92,8 @@ sign award named = record {
       let securities = securities_of_award (award_at award s) s in
       moved (ap (option_map (λ (a : AwardRow). a.notice)) of.is)
       (λ i. sign_puts (record { award = of.is i; notice = of.notice i; lot = of.lot i; envelope = (envelope_of_award (award_at award s) s); securities = securities; clock = s.clock }) now named)
-      (bound (ap (option_and_then (λ (w : AwardRow). option_map (performance_row w) named)) of.is)
-      (bonded (performance_row of.w) named refl
+      (bound (ap (option_and_then (λ (w : AwardRow). option_map (performance_made w) named)) of.is)
+      (bonded (performance_made of.w) named refl
       (front (puts.Award _ ∷ puts.Lot _ ∷ puts.Contract _ ∷ []) (refl, (refl, (refl, tt)))
       (loud of.w.notice of.n (with_next_release of.n) _ _ of.notice_is (ap has_all_releases (of.notice_is ∙ sym of.notice) ∙ tests.1.1.1.1.1.1.1.0) refl refl refl refl (returned_own (touches (Sign award named)) refl securities) refl (omega arith)))));
   parents = λ readings s moment caller order have registered may allowed u grown later. parents_of s u have grown order s.clock _ award named (award_at award s) (notice_of_award (award_at award s) s) (lot_of_award (award_at award s) s) refl refl later;

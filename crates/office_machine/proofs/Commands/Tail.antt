@@ -1,7 +1,7 @@
 -- A command puts its own rows, the clock and, if it publishes, its notice with one release more. It puts no release and no merge.
 use Rattle.office_machine.proofs.Names.{[], ◌≡◌, ℕ, ◌+◌, ◌≤◌, ◌<◌, Bool, true, false, List, ◌∷◌, ◌++◌, map, filter, Option, Some, None, option_map, nat_le, refl, sym, ◌∙◌, ap, subst, arith, option_and_then, nat_tests, Command, Sign, End, ContractRow, with_next_release, has_all_releases, security_returned, is_held_security, securities_returned, settled_performance, put_if, notice_of_contract, contract_at, Tables, put_notice, put_performance, notice_at, award_at, performance_at, after_put, after_puts, release_limit, NoticeRow, SecurityRow, AwardRow, PerformanceRow, ClockRow, Put, ended_state, releases_in, found_key}
 use Rattle.office_base.specs.declared.puts.Put.TheVariants as puts
-use Rattle.award_core.specs.Rules.Sign.{performance_row}
+use Rattle.award_core.specs.Rules.Sign.{performance_made}
 use Rattle.office_machine.proofs.Parents.SpokenOf.{OfContract}
 use Rattle.office_machine.proofs.Accounts.Aside.{after-append}
 use Rattle.office_machine.proofs.Commands.Footprint.{TableName, Notices, Securities, Releases, Merges, Performances, Clock, IsOn, AreOn, on-append, on-wider, on-map, on-if, is_in, leaves}
@@ -59,7 +59,7 @@ CountsNext s key notice = ⊥
 
 -- the performance security that a command puts
 abbrev pub bond_for : Tables → Command → Option PerformanceRow
-bond_for s (Sign award named) = option_and_then (λ (w : AwardRow). option_map (performance_row w) named) (award_at award s)
+bond_for s (Sign award named) = option_and_then (λ (w : AwardRow). option_map (performance_made w) named) (award_at award s)
 bond_for s (End contract how) = option_map (settled_performance (ended_state how)) (performance_at contract s)
 bond_for s command = None
 

@@ -2,7 +2,7 @@
 use Rattle.office_machine.proofs.Names.{◌≡◌, ℕ, ◌<◌, Bool, true, false, cond, not, List, [], ◌∷◌, ◌++◌, filter, Option, Some, None, is_some, IsSome, nat_lt, max, option_map, option_and_then, refl, sym, ap, ◌∙◌, subst, inl, inr, arith, nat_tests, AllByRecursion, nat_cmp_total, nat_cmp-IsAntisymmetric, nat_cmp, eq_by_cmp, NamedSecurity, Caller, How, Command, Sign, End, Refusal, AwardRow, NoticeRow, ContractRow, SecurityRow, PerformanceRow, SecurityState, is_held, Tables, performance_key, performance_at, contract_at, notice_at, find_contract, find_performance, put_contract, named_for, named_after, performance_named, performance_decided, performance_after, fate_of_performance, ended_fate, HasPerformance, first_of, notice_of_award, envelope_of_award, securities_of_award, put_if, performance_settled, settled_performance, is_held_security, security_returned, securities_returned, ReleaseRow, CompiledRow, award_at, entries_of_contract, after_puts, contract_row, is_missing, sign_parts, performance_put, sign_puts, tenderer_in, end_parts, ended_contract, ended_state, end_puts, isnt_active, is_active, Given, Means, Reaches, time_of, effect, publication, publication_puts, command_tests, with_merges, PerformancesHaveFates, PerformancesAreKept, HaveParents, HavePerformances, PerformancesAreThere, published_for, Put, found_key, row_at-row_put}
 use Rattle.office_commands.specs.declared.contract.How.TheVariants as hows
 use Rattle.office_base.specs.declared.records.SecurityState.TheVariants as security
-use Rattle.award_core.specs.Rules.Sign.{performance_row}
+use Rattle.award_core.specs.Rules.Sign.{performance_made}
 use Rattle.office_machine.proofs.Runs.{along}
 use Rattle.office_machine.proofs.Commands.Footprint.{TableName, Contracts, Performances, Securities, leaves, on-append, on-if, on-map, touches}
 use Rattle.office_machine.proofs.Commands.Tail.{HasTail, bond_for, is_bond, is_touched, with_performance}
@@ -93,7 +93,7 @@ module _ (x : Given) (xs : List Given) (ps : List Put) (kept : AreKept xs x.befo
 -- the row that a signing puts; the existing one if it names nothing
 abbrev named_row : AwardRow → Option NamedSecurity → Option PerformanceRow → Option PerformanceRow
 named_row w None before = before
-named_row w (Some n) before = Some (performance_row w n)
+named_row w (Some n) before = Some (performance_made w n)
 
 -- the rule of an end gives the state of the fate
 same_end : (how : How) → ended_fate how ≡ ended_state how
@@ -162,9 +162,9 @@ module _ (means : Means) (xs : List Given) (s : Tables) (moment : ℕ) (caller :
     abbrev first : Tables
     first = after_puts parts s
 
-    rows_after : (named : Option NamedSecurity) (c : ℕ) → find_performance (with_performance (option_map (performance_row of.w) named) s.performances) c ≡ cond (eq_by_cmp nat_cmp c of.w.award) (named_row of.w named (performance_at c s)) (performance_at c s)
+    rows_after : (named : Option NamedSecurity) (c : ℕ) → find_performance (with_performance (option_map (performance_made of.w) named) s.performances) c ≡ cond (eq_by_cmp nat_cmp c of.w.award) (named_row of.w named (performance_at c s)) (performance_at c s)
     rows_after None c = sym (same_either (eq_by_cmp nat_cmp c of.w.award) (performance_at c s))
-    rows_after (Some n) c = row_at-row_put nat_cmp_total performance_key s.performances (performance_row of.w n) c
+    rows_after (Some n) c = row_at-row_put nat_cmp_total performance_key s.performances (performance_made of.w n) c
 
     fates_by : (named' : Option NamedSecurity) → named ≡ named' → (c : ℕ) (b : Bool) → eq_by_cmp nat_cmp c award ≡ b
         → HasPerformance c (performance_named (x ∷ xs) c) (fate_of_performance (x ∷ xs) c) (cond b (named_row of.w named' (performance_at c s)) (performance_at c s))
@@ -175,7 +175,7 @@ module _ (means : Means) (xs : List Given) (s : Tables) (moment : ℕ) (caller :
     fates_by (Some n) is c true one =
         let here : performance_at c s ≡ None = ap (λ c. performance_at c s) (equal_numbers c award one) ∙ none_yet in
         let it : named_for x.command c ≡ Some n = ap (λ b. cond b named None) one ∙ is in
-        let row : Some (performance_row of.w n) ≡ Some (record { contract = c; reference = n.reference; amount = n.amount; state = security.Held }) =
+        let row : Some (performance_made of.w n) ≡ Some (record { contract = c; reference = n.reference; amount = n.amount; state = security.Held }) =
         ap (λ k. Some (record { contract = k; reference = n.reference; amount = n.amount; state = security.Held })) (number ∙ sym (equal_numbers c award one)) in
         subst (HasPerformance c (performance_named (x ∷ xs) c) (fate_of_performance (x ∷ xs) c)) (sym row)
         (subst (λ m. HasPerformance c (named_after (performance_named xs c) m) (performance_after (fate_of_performance xs c) (named_after (performance_named xs c) m) security.Held) (Some (record { contract = c; reference = n.reference; amount = n.amount; state = security.Held }))) (sym it)
@@ -195,7 +195,7 @@ module _ (means : Means) (xs : List Given) (s : Tables) (moment : ℕ) (caller :
     at : (c : ℕ) → performance_at c (after_puts ps s) ≡ cond (eq_by_cmp nat_cmp c of.w.award) (named_row of.w named (performance_at c s)) (performance_at c s)
     at c =
         ap (λ ps. find_performance (after_puts ps s).performances c) (sym effect_is)
-        ∙ ap (λ rows. find_performance rows c) (performances_after (Sign award named) allowed ∙ ap (λ o. with_performance (option_and_then (λ w. option_map (performance_row w) named) o) s.performances) of.is)
+        ∙ ap (λ rows. find_performance rows c) (performances_after (Sign award named) allowed ∙ ap (λ o. with_performance (option_and_then (λ w. option_map (performance_made w) named) o) s.performances) of.is)
         ∙ rows_after named c
 
     tail : HasTail s (max moment s.clock.moment) (touches (Sign award named)) (published_for s (Sign award named)) (bond_for s (Sign award named)) ps

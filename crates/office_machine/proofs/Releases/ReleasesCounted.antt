@@ -1,5 +1,5 @@
 -- The releases of a notice are counted.
-use Rattle.office_machine.proofs.Names.{◌≡◌, ℕ, ◌+◌, ◌≤◌, Bool, true, false, cond, List, [], ◌∷◌, Option, Some, None, refl, sym, ◌∙◌, ap, subst, arith, same_id, release_limit, row_at, NoticeRow, Tables, find_notice, put_notice, Means, Given, next, is_for, AreCounted, ReleasesAreCounted, published_for, releases_in, equal_ids, same_id_is}
+use Rattle.office_machine.proofs.Names.{◌≡◌, ℕ, ◌+◌, ◌≤◌, Bool, true, false, cond, List, [], ◌∷◌, Option, Some, None, refl, sym, ◌∙◌, ap, subst, arith, same_id, release_limit, row_at, NoticeRow, Tables, find_notice, put_notice, Means, Given, next, names_notice, AreCounted, ReleasesAreCounted, published_for, releases_in, equal_ids, same_id_is}
 use Rattle.office_machine.proofs.Rows.Keyed.{found_put, elsewhere}
 use Rattle.office_machine.proofs.Rows.Keyed as keyed
 use Rattle.office_machine.proofs.Parents.ParentsThere.{parents_there}
@@ -8,7 +8,7 @@ use Rattle.office_machine.proofs.Releases.NextIs.{NextIs, next_is}
 
 -- its row counts one release more
 pub record Counts (rows rows' : List NoticeRow) (key : Option (List ℕ)) : Type 0 where
-  pub count : (n : List ℕ) → releases_in (find_notice rows' n) ≡ cond (is_for n key) 1 0 + releases_in (find_notice rows n)
+  pub count : (n : List ℕ) → releases_in (find_notice rows' n) ≡ cond (names_notice n key) 1 0 + releases_in (find_notice rows n)
   pub within : (n : List ℕ) → releases_in (find_notice rows n) ≤ release_limit → releases_in (find_notice rows' n) ≤ release_limit
 
 none_counted : (rows rows' : List NoticeRow) → rows' ≡ rows → Counts rows rows' None

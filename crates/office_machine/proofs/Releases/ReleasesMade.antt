@@ -1,5 +1,5 @@
 -- The stored releases of a notice are those that accepted commands published for it, in their sequence.
-use Rattle.office_machine.proofs.Names.{◌≡◌, ℕ, ◌+◌, ◌≤◌, ◌<◌, Bool, true, false, cond, List, [], ◌∷◌, ◌++◌, filter, Option, Some, None, option_to_list, option_map, option_and_then, refl, sym, ◌∙◌, ap, subst, arith, AllByRecursion, nat_cmp, ordering_then, Ordering, Less, Equal, Greater, ranked, id_cmp, same_id, ReleaseRow, by_order, row_put, StartsAbove, IsInOrder, Tables, IsSorted, release_cmp, release_key, put_release, find_notice, releases_of_notice, equal_ids, same_itself, same_key, all-put, Means, Given, Reaches, publication, release_row, next, published_for, releases_in, is_for, published_by, ReleasesArePublished}
+use Rattle.office_machine.proofs.Names.{◌≡◌, ℕ, ◌+◌, ◌≤◌, ◌<◌, Bool, true, false, cond, List, [], ◌∷◌, ◌++◌, filter, Option, Some, None, option_to_list, option_map, option_and_then, refl, sym, ◌∙◌, ap, subst, arith, AllByRecursion, nat_cmp, ordering_then, Ordering, Less, Equal, Greater, ranked, id_cmp, same_id, ReleaseRow, by_order, row_put, StartsAbove, IsInOrder, Tables, IsSorted, release_cmp, release_key, put_release, find_notice, releases_of_notice, equal_ids, same_itself, same_key, all-put, Means, Given, Reaches, publication, release_row, next, published_for, releases_in, names_notice, published_by, ReleasesArePublished}
 use Rattle.office_machine.proofs.Rows.Keyed as keyed
 use Rattle.office_machine.proofs.Rows.SortedTables.{sorted}
 use Rattle.office_machine.proofs.Parents.ParentsThere.{parents_there}
@@ -116,7 +116,7 @@ module _ (means : Means) (xs : List Given) (x : Given) (order : IsSorted x.befor
 
   module _ (key : Option (List ℕ)) (counts : Counts x.before.notices (next means x).notices key) where
     never_less : (n : List ℕ) → count_in x.before n ≤ count_in (next means x) n
-    never_less n = by (is_for n key) (counts.count n)
+    never_less n = by (names_notice n key) (counts.count n)
       where
         by : (b : Bool) → count_in (next means x) n ≡ cond b 1 0 + count_in x.before n → count_in x.before n ≤ count_in (next means x) n
         by true e = omega (arith, e)
@@ -131,7 +131,7 @@ module _ (means : Means) (xs : List Given) (x : Given) (order : IsSorted x.befor
     }
 
     module _ (r : ReleaseRow) (makes : publication means x ≡ Some r) (is : (next means x).releases ≡ put_release rows r)
-        (number : r.seq ≡ count_in x.before r.notice + 1) (own : is_for r.notice key ≡ true) where
+        (number : r.seq ≡ count_in x.before r.notice + 1) (own : names_notice r.notice key ≡ true) where
       counted : r.seq ≤ count_in (next means x) r.notice
       counted = let one = counts.count r.notice ∙ ap (λ b. cond b 1 0 + count_in x.before r.notice) own in omega (arith, one, number)
 

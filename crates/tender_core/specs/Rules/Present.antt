@@ -53,8 +53,8 @@ received digest clock t caller notice lot security bytes in_time = record {
 }
 
 -- the row of its security: held if the tender is in time, and returned if it is late
-abbrev pub security_row : ClockRow → Caller → List ℕ → List ℕ → Bool → NamedSecurity → SecurityRow
-security_row clock caller notice lot in_time named = record {
+abbrev pub security_made : ClockRow → Caller → List ℕ → List ℕ → Bool → NamedSecurity → SecurityRow
+security_made clock caller notice lot in_time named = record {
   security = clock.receipts + 1;
   tenderer = tenderer_of caller;
   notice = notice;
@@ -65,7 +65,7 @@ security_row clock caller notice lot in_time named = record {
 }
 
 abbrev pub security_put : ClockRow → Caller → List ℕ → List ℕ → Bool → NamedSecurity → Put
-security_put clock caller notice lot in_time named = puts.Security (security_row clock caller notice lot in_time named)
+security_put clock caller notice lot in_time named = puts.Security (security_made clock caller notice lot in_time named)
 
 -- the change that stores the bytes, if the tender is in time
 abbrev pub seal_puts : ClockRow → List ℕ → Bool → List Put

@@ -4,7 +4,7 @@ use Rattle.office_base.specs.declared.records.EnvelopeState.TheVariants as envel
 use Rattle.office_base.specs.declared.records.SecurityState.TheVariants as security
 use Rattle.office_base.specs.declared.records.NoticeState.TheVariants as notice
 use Rattle.office_base.specs.declared.records.LotState.TheVariants as lot
-use Rattle.tender_core.specs.Rules.Present.{security_row}
+use Rattle.tender_core.specs.Rules.Present.{security_made}
 use Rattle.office_machine.proofs.Rows.Counting.{is_live}
 use Rattle.office_machine.proofs.Passed.{none_holds, not_false}
 use Rattle.office_machine.proofs.FateLaws.Views.{View, IsSound, IsSecured, EnvelopeFits}
@@ -232,11 +232,11 @@ module _ (readings : Readings) (name lot_name : List ℕ) (bytes : List ℕ) (xs
   module _ (named : NamedSecurity) (b : Bool) (b_is : holds_of (is_in_time (max m t.clock.moment)) (notice_at name t) ≡ b) (u : Tables)
       (envelopes_are : (r : ℕ) → envelope_at r u ≡ added next (row (Some named) b) (λ r. envelope_at r t) r)
       (seals_are : (r : ℕ) → seal_at r u ≡ cond b (cond (eq_by_cmp nat_cmp r next) (Some kept_seal) (seal_at r t)) (seal_at r t))
-      (securities_are : (s : ℕ) → security_at s u ≡ added next (security_row t.clock caller name lot_name b named) (λ s. security_at s t) s)
+      (securities_are : (s : ℕ) → security_at s u ≡ added next (security_made t.clock caller name lot_name b named) (λ s. security_at s t) s)
       (rest : seen u ≡ record (seen t) { envelope_at = λ r. envelope_at r u; security_at = λ s. security_at s u })
       (receipts_are : u.clock.receipts ≡ next) where
     abbrev w : SecurityRow
-    w = security_row t.clock caller name lot_name b named
+    w = security_made t.clock caller name lot_name b named
 
     abbrev S : ℕ → Option SecurityRow
     S = added next w (λ s. security_at s t)
@@ -314,9 +314,9 @@ module _ (readings : Readings) (name lot_name : List ℕ) (bytes : List ℕ) (xs
     }
 
   securities_put : (named : NamedSecurity) (b : Bool) (s : ℕ)
-      → Rattle.office_base.specs.Tables.find_security (Rattle.office_base.specs.Tables.put_security t.securities (security_row t.clock caller name lot_name b named)) s
-      ≡ added next (security_row t.clock caller name lot_name b named) (λ s. security_at s t) s
-  securities_put named b s = row_at-row_put nat_cmp_total security_key t.securities (security_row t.clock caller name lot_name b named) s
+      → Rattle.office_base.specs.Tables.find_security (Rattle.office_base.specs.Tables.put_security t.securities (security_made t.clock caller name lot_name b named)) s
+      ≡ added next (security_made t.clock caller name lot_name b named) (λ s. security_at s t) s
+  securities_put named b s = row_at-row_put nat_cmp_total security_key t.securities (security_made t.clock caller name lot_name b named) s
 
   with_security : (named : NamedSecurity) (b : Bool) → holds_of (is_in_time (max m t.clock.moment)) (notice_at name t) ≡ b
       → HaveFates readings (given_present (Some named) ∷ xs) (after_puts (ps (Some named) b) t)
