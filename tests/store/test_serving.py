@@ -16,8 +16,10 @@ import pytest
 
 from office_kit.client import Blocks, Client, budget, lot, notice
 from office_kit.common import CONFIG, HOST, LENGTH, connect, import_of, look, made_shim, read_all
+from office_kit.measures import in_file
 from office_kit.store import pages
 from office_kit.store.files import ledger_of, made_line, wrong
+from office_kit.store.large_office import make_contracts
 from office_kit.store.served import served, server
 
 pytestmark = pytest.mark.time
@@ -276,6 +278,15 @@ WRONG_FILES = {
     "two are refused": (FAILING + answering(BUSY, BUSY, b"", b"", status=1), test_a_flush_that_fails, "none but the last is refused"),
     "all are refused without a fault": (OTHERS + answering(*[BUSY] * 4), test_a_flush_that_fails, "all are answered with 200 then"),
 }
+
+
+def test_a_start_adds_up(program, tmp_path):
+    """The first ledger after a start takes about as long as later ones, since the start has added up the contracts. (That takes 10 µs for each of them.)"""
+    file = str(tmp_path / "office.db")
+    make_contracts(program, file, 5000, 1)
+    with in_file(program, file) as office:
+        first, again = office.took([look(b"/ledger")]), office.median(5, [look(b"/ledger")])
+    assert first < 10 * max(again, 0.001)
 
 
 @pytest.mark.parametrize("test, answers", [(test_one_after_another, (TAKEN, LOOKED)), (test_harmful_clients, (b"", TAKEN, BAD, BAD, LOOKED))])

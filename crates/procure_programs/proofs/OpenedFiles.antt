@@ -3,6 +3,7 @@ use Rattle.procure_programs.proofs.Names.{◌≡◌, inl, inr, Option, Some, Non
 use Rattle.sqlite.specs.Held.{Held as Connected}
 use Rattle.office_values.specs.declared.settings.Settings.{Settings}
 use Rattle.office_http.specs.Answering.{Held}
+use Rattle.procure_programs.proofs.RememberedServing.{stops_inside}
 use Rattle.procure_programs.proofs.ServingSteps.{office_on, served_none, served_still, serving_kept, stops_none}
 
 -- ---- the steps of the connections
@@ -81,14 +82,13 @@ module _ {D : Type 0} {g : Ghosts D} where
     steps_of last result it clean h are (sorted, has, stands) =
         let shown = shows_files image it.opened.0 it.held it.empty (it.served.0 clean) h.tables has in
         let honest = subst (sql_meaning over_files).honest (sym it.turns.inside) clean in
+        let asked = it.turns.before clean in
         let (steps, few, of_them, after, stop) = went_after binds N (remembering (sql_meaning over_files)) (remembering_standing (sql_standing over_files)) network bound port count
         (record { shelf = it.turns.first; settings = settings }) (record { shelf = it.turns.last; settings = it.turns.turns.0 }) result it.turns.turns.1 honest h
-        ((sym are, it.turns.holds h.tables (sorted, shown)), stands) in
+        ((sym are, it.turns.holds asked h.tables (sorted, shown)), stands) in
         let holds = subst (λ (s : Connected (FileStore D g) × ℕ). (sql_meaning over_files).holds s (office_left office_answers h steps).tables) it.turns.inside after.0.1.0 in
-        let inside : StopsBy (sql_meaning over_files) it.turns.first.shelf it.turns.last.shelf h steps = record { left = stop.left; sound = stop.sound } in
-        let around : StopsBy (sql_meaning over_files) it.opened it.turns.last.shelf h steps =
-        subst (λ (s : Connected (FileStore D g) × ℕ). StopsBy (sql_meaning over_files) s it.turns.last.shelf h steps) it.turns.around inside in
-        (steps, few, of_them, holds, after.1, subst (λ (s : Connected (FileStore D g) × ℕ). StopsBy (sql_meaning over_files) it.opened s h steps) it.turns.inside around)
+        let inside = stops_inside (sql_meaning over_files) it.opened it.turns.first it.turns.last it.turns.around asked h steps stop in
+        (steps, few, of_them, holds, after.1, subst (λ (s : Connected (FileStore D g) × ℕ). StopsBy (sql_meaning over_files) it.opened s h steps) it.turns.inside inside)
 
     -- The files have the office after the steps of the connections.
     goes_on_by : (last : Connected (FileStore D g) × ℕ) (files : Files D) (result : Result (Unit {0}) ProgramFault)

@@ -16,7 +16,7 @@ use Rattle.sqlite.specs.Files.{file_state, image_of, over_files}
 use Rattle.sqlite.specs.Held.{Held as Connected, state as sql_state}
 use Rattle.sqlite.specs.State.{HasCleanDisk}
 use Rattle.office_values.specs.declared.settings.Settings.{Settings}
-use Rattle.office_base.specs.Shelves.{Meaning}
+use Rattle.office_base.specs.Shelves.{Keeps, Meaning}
 use Rattle.office_base.specs.Shutting.{Standing}
 use Rattle.office_base.specs.Tables.{Tables, IsSorted, no_tables}
 use Rattle.office_publications.specs.Standing.{IsReached}
@@ -54,13 +54,14 @@ abbrev pub WasServedAt : {S X T R W : Type 0} → (X → SocketAddrV4 → Option
 WasServedAt binds N M store network bound port count settings old new result =
     (now : Settings) × ServesAt binds N M store network bound port count (record { shelf = old; settings = settings }) (record { shelf = new; settings = now }) result
 
--- An office in a store was served as `WasServedAt` says, in a store around it that remembers sums of budget lines and numbers of releases. At first that one held
--- each office that the store inside held (`holds`).
+-- An office in a store was served as `WasServedAt` says, in a store around it that remembers sums of budget lines and numbers of releases. Before, the sums were
+-- asked for, which changed nothing (`around`). So at first that one held each office that the store inside held (`holds`).
 pub record WasServedRemembering {S X T R W : Type 0} (binds : X → SocketAddrV4 → Option T → X → Type 0) (N : Hosting T R W) (M : Meaning S) (store : Standing S) (network bound : X) (port : ℕ) (count : ℕ) (settings : Settings) (old new : S) (result : Result (Unit {0}) ProgramFault) : Type 0 where
   pub first : RememberingShelf S
   pub last : RememberingShelf S
-  pub around : first.shelf ≡ old
-  pub holds : (t : Tables) → M.holds old t → (remembering M).holds first t
+  pub around : Keeps M old first.shelf
+  pub before : M.honest new → M.honest first.shelf
+  pub holds : M.honest first.shelf → (t : Tables) → M.holds old t → (remembering M).holds first t
   pub inside : last.shelf ≡ new
   pub turns : WasServedAt binds N (remembering M) (remembering_standing store) network bound port count settings first last result
 

@@ -5,7 +5,7 @@ ghost use Rattle.sqlite_wal.specs.Reads.{AreClean};
 ghost use Rattle.sqlite.specs.Closing.{IsCopied};
 ghost use Rattle.sqlite.specs.Files.{file_state};
 ghost use Rattle.sqlite.specs.State.{HasCleanDisk};
-ghost use Rattle.office_base.specs.Shelves.{Looks};
+ghost use Rattle.office_base.specs.Shelves.{Keeps, Looks};
 ghost use Rattle.office_store.specs.Reopening.{IsHalfClosed, OpensHeld};
 ghost use Rattle.office_store.specs.SqlMeaning.{LeavesNoOther, LeavesShown, sql_meaning};
 ghost use Rattle.procure_programs.specs.FaultsTold.{IsOfStore};
@@ -21,6 +21,7 @@ use crate::kept::{print_office, serve_office};
 use crate::placing::place_empty;
 use crate::room::room_for;
 use crate::showing::Printout;
+use office_base::shelf::Lookups;
 use office_http::laws::accounts_and_fates;
 use office_machine::laws::order;
 use office_store::opened::Opened;
@@ -92,6 +93,13 @@ fn let_go<D: Disk + Drop>(store: Option<FileStore<D>>) {
     }
 }
 
+// Asks for the ledger, so that a store that remembers sums has them before anyone waits for them. If that fails, the next request for it asks again.
+fn add_up<H: Lookups>(shelf: &mut H)
+    ensures { Keeps H.meaning shelf.old shelf.new }
+{
+    drop(shelf.ledger());
+}
+
 // Remembers the sums of budget lines while it serves. Generic in the store, not in the disk below it. So the prover doesn't compare the facts about any store
 // again for a store over files.
 fn serve_shelf<N: Network, A: Alter + Drop>(
@@ -108,7 +116,8 @@ fn serve_shelf<N: Network, A: Alter + Drop>(
     ensures fault { IfErr result IsOfStore }
     ensures unserved { OnErr result (network.new ≡ network.old) }
 {
-    let first = RememberingShelf::new(alloc, shelf);
+    let mut first = RememberingShelf::new(alloc, shelf);
+    add_up(&mut first);
     let (last, served) = serve_office(alloc, network, settings, first, port, count)?;
     Ok((last.into_shelf(), served))
 }
