@@ -23,13 +23,13 @@ def digest_of(path: str) -> str:
 
 
 def files_in(folder: str) -> Iterator[tuple[str, str, os.stat_result]]:
-    """The files of each notice, with their sizes and times. A file whose name no address can have is named on standard error."""
+    """The files of each notice, with their sizes and times. A file that nginx couldn't show, by its name or its mode, is named on standard error."""
     for notice in sorted(os.listdir(folder)) if os.path.isdir(folder) else []:
         place = os.path.join(folder, notice)
         for name in sorted(os.listdir(place)) if IDENTIFIER.fullmatch(notice) and os.path.isdir(place) else []:
             path = os.path.join(place, name)
-            if not NAMED.fullmatch(name) or os.path.islink(path) or not os.path.isfile(path):
-                print(f"mirror: {path} isn't shown: name a file with letters from A to z, digits, . _ and - only", file=sys.stderr)
+            if not NAMED.fullmatch(name) or os.path.islink(path) or not os.path.isfile(path) or not os.access(path, os.R_OK):
+                print(f"mirror: {path} isn't shown: it can't be read, or its name has more than letters from A to z, digits, . _ -", file=sys.stderr)
                 continue
             yield notice, name, os.stat(path)
 
