@@ -83,6 +83,8 @@ export default {
   "step.signing": "Signing",
   "step.contract": "Contract",
   "task.none": "There is nothing to do now.",
+  "task.letters.cancelled": "Lot {lot} is cancelled: send the letters, if you haven't yet",
+  "task.letters.unsuccessful": "Lot {lot} ended without a contract: send the letters, if you haven't yet",
   "task.dates": "What is running",
   "task.others": ["Left to others: 1 task ({roles}).", "Left to others: {count} tasks ({roles})."],
   "task.wait": "Wait for tenders until {until}",
