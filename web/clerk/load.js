@@ -84,7 +84,7 @@ function entryOf(name, task, isTask) {
   return element("li", isTask && !isLinked ? { class: "wrong" } : {}, isLinked ? link(told, placeOfTask(name, task)) : told, away);
 }
 
-/** The letters for lots that ended without a contract. (Nothing records whether they were sent.) */
+/** The letters for lots that were awarded or ended without a contract. (Nothing records whether they were sent.) */
 function lettersOf(name, { kind, lots }) {
   return lots.filter(({ state, tenders }) => hasText(`task.letters.${state}`) && (kind === "cancelled" || tenders.length > 0)).map(({ id, state }) =>
     element("li", {}, link(say(`task.letters.${state}`, { lot: id }), placeOf("letter", name, id))));
