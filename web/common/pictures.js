@@ -105,7 +105,7 @@ export function daysOf(notice) {
 
 // A sign for the outcome of a tender: the winner's, one that can win, one that can't.
 const SIGN = { won: "disc", signed: "disc", unresponsive: "cross", late: "cross", passed: "cross", awardended: "cross", unexamined: "cross" };
-const NEAR = 0.035, STEP = 15;
+const NEAR = 0.05, STEP = 15;
 
 /** Points above each other where they would hide each other: each with its part of the width and its level. */
 function levels(points) {
