@@ -51,7 +51,7 @@ export function byMonth(payments, currency) {
   const marked = marksOf(Date.parse(months[0][0]), Date.parse(months.at(-1)[0]), MARKS).marks.map((at) => new Date(at).toISOString().slice(0, 7));
   const mark = (month) => (month.endsWith("-01") ? month.slice(0, 4) : monthText(month, { month: "short" }));
   const rows = months.map(([month, amount]) => ({ name: monthText(month, { month: "long", year: "numeric" }), amount,
-    mark: marked.includes(month) ? mark(month) : "" }));
+    mark: marked.includes(month) || months.length === 1 ? mark(month) : "" }));
   const label = say("see.month.label", { count: rows.length, first: rows[0].name, last: rows.at(-1).name, sum: number(sum(rows.map(({ amount }) => amount))), currency });
   return element("div", {}, element("p", {}, label), columns(label, rows, [say("see.month"), say("see.paid")]));
 }

@@ -200,8 +200,8 @@ class Answers:
     def ask(self, path: str) -> str | None:
         """The body of the office's answer. None if it doesn't exist, or not yet, or the front knows no such route."""
         status, body = self.patient(path)
-        told = json_object(body) or {}
-        refused = status in (404, 409) and "refusal" in told or status == 404 and "front" in told
+        told = json_object(body) or {} if status in (404, 409) else {}
+        refused = "refusal" in told or status == 404 and "front" in told
         if status != 200 and not refused:
             raise Unreadable(f"{self.base + path}: status {status}: {body[:100]}")
         return body if status == 200 else None

@@ -142,7 +142,7 @@ def award_part(desk: Desk) -> None:
     desk.press("End the lot without a contract …", "Lot L2", says="End lot L2 of notice N1 without a contract")
     desk.hides("securities", picture="nobody")
     desk.confirm("End the lot without a contract", "Lot L2 has ended without a contract. 300 EUR is free again.")
-    desk.says("Lot L1: sign the contract")
+    desk.says(("Lot L1: sign the contract", "Lot L2 ended without a contract: send the letters, if you haven't yet"))
     desk.hides("The standstill")
     letters_part(desk)
     desk.press("The winner doesn't sign", picture="awarded")
@@ -267,7 +267,7 @@ def life(scene: Scene) -> None:
     award_part(desk)
     contract_part(desk)
     journal_part(desk)
-    desk.go("today", picture="today")
+    desk.go("today", says="All notices are finished.", picture="today")
     assert scene.front.ask("GET", "/ledger").body.decode().split("\n")[2] == "1000\t5000\t4500\t0\t0\t500", "what was done"
     page_checks.keeps_nothing(scene, desk.page)
 
@@ -290,7 +290,7 @@ def moved_and_cancelled(scene: Scene) -> None:
     desk.is_off("Cancel the notice")
     desk.picture("cancel")
     desk.confirm("Cancel the notice", "All open lots of notice N2 are cancelled.")
-    desk.says("There is nothing to do now.")
+    desk.says("Lot L1 is cancelled: send the letters, if you haven't yet")
     desk.go("letter/N2/L1")
     page_checks.sheets(scene, desk.page, "letter/N2/L1")
 

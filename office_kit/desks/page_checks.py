@@ -31,8 +31,8 @@ NAMED = ("link", "button", "textbox", "checkbox", "image", "table", "region", "a
 MANY = 2000
 # Moments, days, clocks and years, which differ in each run.
 DAYS = r"\d{1,2}\.? [A-Z][a-zä]+ \d{4}"
-MOVING = [(re.compile(rf"{DAYS} (at|um) \d\d:\d\d:\d\d \w+"), "MOMENT"), (re.compile(rf"{DAYS} (at|um) \d\d:\d\d \w+"), "MINUTE"), (re.compile(DAYS), "DAY"),
-          (re.compile(r"(?<=Paid in )\w+ \d{4}"), "MONTH"),
+MOVING = [(re.compile(rf"{DAYS} (at|um) \d\d:\d\d:\d\d \w+"), "MOMENT"), (re.compile(rf"{DAYS} (at|um) \d\d:\d\d \w+"), "MINUTE"),
+          (re.compile(rf"{DAYS}|\d{{1,2}}\.? [A-Z][a-zä]+(?= – {DAYS})"), "DAY"), (re.compile(r"(?<=Paid in )\w+ \d{4}"), "MONTH"),
           (re.compile(r"closes in [^\n]*"), "closes in CLOCK"), (re.compile(r"([0-9a-f]{8} ){7}[0-9a-f]{8}"), "DIGEST"),
           (re.compile(r"^20\d\d(?=$|:)", re.M), "YEAR")]
 ZONE = "Europe/Berlin"

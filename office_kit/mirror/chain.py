@@ -51,12 +51,13 @@ class Chain:
         self.lines, self.head = [line for line in text.split("\n") if line], FIRST
         self.broken: int | None = None
         self.seen: dict[str, dict[int, tuple[str, str]]] = {}
+        # (Each run reads it all: after ten years of a city it has some 70,000 lines.)
         for number, line in enumerate(self.lines, 1):
-            head, _, rest = line.partition("\t")
-            if self.broken is None and (head != digest_of(f"{self.head}\t{rest}") or rest.count("\t") != 3):
+            head, *words = line.split("\t")
+            if self.broken is None and (len(words) != 4 or head != digest_of(self.head + line[len(head):])):
                 self.broken = number
             self.head = head
-            moment, notice, count, digest = (rest.split("\t") + [""] * 4)[:4]
+            moment, notice, count, digest = words if len(words) == 4 else (words + [""] * 4)[:4]
             self.seen.setdefault(notice, {})[int(count) if count.isdigit() else 0] = (digest, moment)
 
     def add(self, moment: str, notice: str, number: int, digest: str) -> None:

@@ -44,7 +44,7 @@ PLANTS = [
     ("tools/mirror", "gone = [name for name in chain.seen if name not in rows]", "gone = []", "unlisted"),
     ("tools/mirror", "return moved | set(rest[:choice.again])", "return moved", "found_in_time"),
     ("tools/mirror", " or kept.known.get(name, {}).get(\"moving\", True)", "", "late_news"),
-    ("office_kit/mirror/chain.py", "if self.broken is None and (head", "if False and (head", "by_hand"),
+    ("office_kit/mirror/chain.py", "if self.broken is None and (len", "if False and (len", "by_hand"),
     ("tools/mirror", "chain.head != kept.state.get(\"chain\", chain.head)", "False", "by_hand"),
     ("tools/mirror", "if changed or one.texts != before", "if True", "first_and_next"),
     ("tools/mirror", "        put_in_place(new.new, kept.folder)\n", "", "first_and_next"),

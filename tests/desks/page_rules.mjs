@@ -11,9 +11,9 @@ export function outcomesOf(tenders, text, byPoints, status, forfeits, isWhole) {
   return tenders.map((one) => [...outcomeOf(one, shown, byPoints), securityOf(one, shown, status, forfeits)]);
 }
 
-/** The lowest price and the points of each lot. */
+/** The lowest price and the points of each lot, and whether there are any. */
 export function pointsIn(text) {
-  return [...evaluationOf(text)].map(([, shown]) => [lowestOf(shown), [...shown.tenders.values()].map(pointsOf)]);
+  return [...evaluationOf(text)].map(([, shown]) => [lowestOf(shown), [...shown.tenders.values()].map(pointsOf), hasPoints(shown)]);
 }
 
 export function searchPlan(list, data, caller, now) {

@@ -93,6 +93,7 @@ def texts(node):
     for tag, found in books["common"].items():
         for name, names in STATE_NAMES.items():
             assert [it for it in names if not found[f"see.is.{it}"].startswith(found[f"see.state.{name}"])] == [], (tag, name)
+    assert not re.search("[`\"][“„]", "".join(sources.values())), "quotation marks belong to a language's texts"
     for tag, where, pattern in OTHER_WORDS:
         assert [name for book in where for name, text in books[book][tag].items() if re.search(pattern, str(text))] == [], pattern
     for name in ("order.award.title", "order.sign.title", "order.fail.title"):
@@ -212,8 +213,8 @@ def points(node):
     """For some hundred evaluations by points, the price's part, the quality and the sum are those of the rule, computed here again."""
     chance = random.Random(7)
     for text, lowest, wanted in (evaluation(chance) for _ in range(200)):
-        [[least, told]] = node.ask("pointsIn", text)
-        assert least == lowest and [it and (round(it["price"] * 1000), it["quality"]) for it in told] == wanted, text
+        [[least, told, has]] = node.ask("pointsIn", text)
+        assert least == lowest and has == any(wanted) and [it and (round(it["price"] * 1000), it["quality"]) for it in told] == wanted, text
         assert all(it is None or abs(it["price"] + it["quality"] - it["sum"]) < 1e-6 for it in told), text
 
 

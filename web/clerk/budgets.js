@@ -131,7 +131,7 @@ function warningsOf({ names, lines }) {
 /** A warning about titles that look misread. */
 function oddText(rows) {
   const odd = oddTitles(rows);
-  return odd.length === 0 ? [] : [say("budget.odd", { titles: odd.slice(0, MOST_NAMED).map((text) => `“${text}”`).join(", "), count: odd.length })];
+  return odd.length === 0 ? [] : [say("budget.odd", { titles: odd.slice(0, MOST_NAMED).map((title) => say("budget.odd.title", { title })).join(", "), count: odd.length })];
 }
 
 function limits({ bytes, rows }) {

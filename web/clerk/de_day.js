@@ -1,6 +1,8 @@
 // The texts of Today, of awards and letters, and of questions before something is lost, in German.
 export default {
   "today.begin": "Beginnen Sie unter „{budget}“ mit einer Haushaltsdatei. Schreiben Sie dann unter „{notice}“ eine Bekanntmachung.",
+  "today.over": "Alle Bekanntmachungen sind abgeschlossen.",
+  "today.over.find": "Sie finden sie oben, zum Beispiel um Schreiben über ein aufgehobenes Los zu versenden.",
   "today.nothing": "Keine Bekanntmachung, keine Firma, kein Vertrag und keine Rechnung passt dazu. Prüfen Sie die Schreibweise.",
   "today.choose": ["Wählen Sie sie unten aus.", "{count} Bekanntmachungen passen. Wählen Sie unten eine aus, oder schreiben Sie mehr."],
   "today.foundby": "Gefunden durch",
@@ -34,6 +36,7 @@ export default {
   "today.short.standstill": "Los {lot}: Wartefrist",
   "today.short.contract": "Los {lot}: Vertrag {contract}",
   "today.short.end": "Los {lot}: Vertrag {contract} beenden",
+  "budget.odd.title": "„{title}“",
   "budget.odd": ["Achtung: Eine Bezeichnung hat Buchstaben, die falsch gelesen aussehen: {titles}. Speichern Sie die Datei als UTF-8, wenn sie falsch sind: Bezeichnungen werden veröffentlicht.", "Achtung: {count} Bezeichnungen haben Buchstaben, die falsch gelesen aussehen: {titles}. Speichern Sie die Datei als UTF-8, wenn sie falsch sind: Bezeichnungen werden veröffentlicht."],
   "editor.empty.ask": "Formular leeren?",
   "editor.empty.what": "Alle Felder werden leer, auch die aller Lose. Bis Sie einen anderen Entwurf beginnen, können Sie diesen zurückholen.",

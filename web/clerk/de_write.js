@@ -185,7 +185,7 @@ export default {
   "lots.additem": "Position hinzufügen",
   "lots.item": "Position {number}",
   "lots.removeitem": "Position {item} entfernen",
-  "lots.items.hint": "Schreiben Sie die Einheit in die Bezeichnung. Preise sind ganze Einheiten der Währung: Kostet ein Meter 12,50, fragen Sie nach „Bordstein, 10 m“.",
+  "lots.items.hint": "Schreiben Sie die Einheit in die Bezeichnung. Preise sind ganze Einheiten der Währung: Kostet ein Meter 12,50, fragen Sie nach „Bordsteine, 10 m“.",
   "lots.security.hint": "Der Mindestbetrag der Sicherheit eines Angebots; 0: keine.",
   "lots.free": "{free} frei",
   "lots.noline": "Haushaltsstelle wählen",

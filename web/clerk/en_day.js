@@ -1,6 +1,8 @@
 // The texts of Today, of awards and letters, and of questions before something is lost, in English.
 export default {
   "today.begin": "Begin with a budget file, under “{budget}”. Then write a notice, under “{notice}”.",
+  "today.over": "All notices are finished.",
+  "today.over.find": "You find them above, for example to send letters about a cancelled lot.",
   "today.nothing": "No notice, firm, contract or invoice matches this. Check the spelling.",
   "today.choose": ["Choose it below.", "{count} notices match. Choose one below, or type more."],
   "today.foundby": "Found by",
@@ -34,6 +36,7 @@ export default {
   "today.short.standstill": "Lot {lot}: standstill",
   "today.short.contract": "Lot {lot}: contract {contract}",
   "today.short.end": "Lot {lot}: end contract {contract}",
+  "budget.odd.title": "“{title}”",
   "budget.odd": ["Careful: a title has letters that look misread: {titles}. Save the file as UTF-8 if they are wrong: a title is published.", "Careful: {count} titles have letters that look misread: {titles}. Save the file as UTF-8 if they are wrong: titles are published."],
   "editor.empty.ask": "Clear the form?",
   "editor.empty.what": "All fields become empty, also those of all lots. Until you begin another draft you can bring this one back.",

@@ -3,7 +3,7 @@ import { element, given, link, placeOf } from "../common/draw.js";
 import { evaluationOf } from "../common/findings.js";
 import { countdown, moment, span, when } from "../common/money.js";
 import { evaluationText, officeNow, record, terms } from "../common/office.js";
-import { say, sayParts } from "../common/texts.js";
+import { hasText, say, sayParts } from "../common/texts.js";
 import { caller, may } from "./session.js";
 import { isFact, rolesOf, stageOf, tasksOf } from "./stage.js";
 import { momentText } from "./values.js";
@@ -84,6 +84,12 @@ function entryOf(name, task, isTask) {
   return element("li", isTask && !isLinked ? { class: "wrong" } : {}, isLinked ? link(told, placeOfTask(name, task)) : told, away);
 }
 
+/** The letters for lots that were awarded or ended without a contract. (Nothing records whether they were sent.) */
+function lettersOf(name, { kind, lots }) {
+  return lots.filter(({ state, tenders }) => hasText(`task.letters.${state}`) && (kind === "cancelled" || tenders.length > 0)).map(({ id, state }) =>
+    element("li", {}, link(say(`task.letters.${state}`, { lot: id }), placeOf("letter", name, id))));
+}
+
 /** The next tasks of this clerk, as sentences, and those of others; and the dates to wait for. */
 export function tasks(name, stage) {
   const now = officeNow();
@@ -91,6 +97,6 @@ export function tasks(name, stage) {
   const own = all.filter(isOwn);
   const others = othersText(all);
   const made = own.filter((task) => !isFact(task, now)).map((task) => entryOf(name, task, true));
-  return { todo: [...made, ...(others ? [element("li", { class: "quiet" }, others)] : [])],
+  return { todo: [...made, ...lettersOf(name, stage), ...(others ? [element("li", { class: "quiet" }, others)] : [])],
     dates: own.filter((task) => isFact(task, now)).map((task) => entryOf(name, task, false)) };
 }

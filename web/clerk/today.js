@@ -40,8 +40,8 @@ export async function drawToday(again) {
     return again();
   }, "second");
   const begin = [say("see.list.empty"), say("today.begin", { budget: say("page.budget"), notice: say("page.new") })];
-  const none = note("look", ...(list.length === 0 ? begin : [say("task.none")]));
-  const place = element("div", {}, shown.length > 0 ? groups(shown) : none);
+  const none = list.length === 0 ? begin : left === 0 ? [say("today.over"), say("today.over.find")] : [say("task.none")];
+  const place = element("div", {}, shown.length > 0 ? groups(shown) : note("look", ...none));
   const rest = othersText(shown.filter(({ fault }) => !fault).flatMap((entry) => tasksOf(stageOfEntry(entry), officeNow())));
   const all = [...shown, ...entries.filter(({ notice }) => !known.has(notice))];
   return { title: say("page.today"), content: [title(say("page.today")), element("p", { class: "intro" }, say("today.intro")),

@@ -253,7 +253,7 @@ export default {
   "see.reason": "Grund: „{text}“",
   "see.happened": "Verlauf",
   "see.documents": "Dokumente",
-  "see.document": "({bytes} Bytes)",
+  "see.document": "({bytes} Byte)",
   "see.share": "Adresse zum Weitergeben und Drucken",
   "see.raw": "Quellen dieser Seite",
   "see.head.published": "Veröffentlicht",

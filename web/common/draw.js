@@ -60,7 +60,7 @@ export function facts(pairs) {
 /** A framed text, with a sign that screen readers skip. */
 export function badge(kind, text) {
   const signs = { open: "○", running: "◐", done: "●", stopped: "✕", ended: "■" };
-  return element("span", { class: `badge ${kind}` }, element("span", { "aria-hidden": "true" }, signs[kind] ?? "", " "), text);
+  return element("span", { class: `badge ${kind}` }, element("span", { "aria-hidden": "true" }, signs[kind] ?? "", "\u00a0"), text);
 }
 
 /** A bar of parts, each with a kind (its pattern), a name and an amount. Its label says what it shows. */

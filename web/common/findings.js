@@ -156,6 +156,11 @@ export function pointsOf({ points, quality }) {
   return points === null ? null : { price: (points - 1000 * quality) / 1000, quality, sum: points / 1000 };
 }
 
+/** Whether the evaluation of a lot has points: none has before the examination. */
+export function hasPoints(shown) {
+  return [...(shown?.tenders.values() ?? [])].some(({ points }) => points !== null);
+}
+
 /** The lowest price of the tenders that can win, which all prices are compared with; null if there is none. */
 export function lowestOf(shown) {
   const prices = [...(shown?.tenders.values() ?? [])].filter(({ standing }) => standing === "admissible").map(({ price }) => price);

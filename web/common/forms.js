@@ -12,6 +12,8 @@ export function field(label, /** @type {any} */ { id = fresh("field"), kind = "t
   const input = kind === "choice" ? element("select", own, options.map(([name, text]) => element("option", { value: name }, text)))
     : kind === "lines" ? element("textarea", { rows: "6", ...own }) : element("input", { type: kind, autocomplete: "off", autocapitalize: "none", ...own });
   input.value = value;
+  // (A choice that its field cuts is whole in its title.)
+  kind === "choice" && input.addEventListener("pointerenter", () => { input.title = input.selectedOptions[0]?.text ?? ""; });
   const wrong = element("p", { id: `${id}-wrong`, class: "wrong", hidden: "" });
   const tell = (sentence) => {
     wrong.textContent = sentence;

@@ -31,7 +31,15 @@ function daysText(steps) {
   const isOpen = steps.some(({ to }) => to === null);
   const to = Math.max(...steps.map((one) => one.to ?? one.from));
   const [first, last] = [dayOf(from), dayOf(to)];
-  return isOpen ? [say("way.since"), " ", first] : first.textContent === last.textContent ? [first] : [first, " – ", last];
+  if (isOpen || first.textContent === last.textContent) {
+    return isOpen ? [say("way.since"), " ", first] : [first];
+  }
+  // (A year that both have is said once.)
+  const year = last.textContent.slice(-5);
+  if (first.textContent.endsWith(year)) {
+    first.textContent = first.textContent.slice(0, -5);
+  }
+  return [first, " – ", last];
 }
 
 /** The state of all steps of a kind. */
@@ -73,7 +81,9 @@ export function daysOf(notice) {
   const steps = stepsOf(notice);
   const range = rangeOf(steps, now, notice.compiled.tender.status === "active");
   const shown = shownOf(notice, steps);
-  const { unit, marks } = marksOf(range[0], range[1], MARKS);
+  const { unit, marks: all } = marksOf(range[0], range[1], MARKS);
+  // (The text of a day is longer than that of a month.)
+  const marks = all.filter((_, at) => unit !== "day" || all.length < 4 || at % 2 === 0);
   const rows = shown.map(([step, some]) => element("div", { class: "row" }, element("b", {}, say(`way.${step}`)),
     rowOf(some, now, range), element("span", { class: "quiet" }, some.length > 0 ? daysText(some) : unknown(step, notice.terms))));
   const axis = element("div", { class: "row axis" }, element("span"), scale(marks.map((at) =>
@@ -95,7 +105,7 @@ export function daysOf(notice) {
 
 // A sign for the outcome of a tender: the winner's, one that can win, one that can't.
 const SIGN = { won: "disc", signed: "disc", unresponsive: "cross", late: "cross", passed: "cross", awardended: "cross", unexamined: "cross" };
-const NEAR = 0.035, STEP = 15;
+const NEAR = 0.05, STEP = 15;
 
 /** Points above each other where they would hide each other: each with its part of the width and its level. */
 function levels(points) {

@@ -1,6 +1,6 @@
 // The opened tenders of a lot as a table: prices, points with their arithmetic, results, and securities.
 import { badge, below, element, given, link, placeOf } from "./draw.js";
-import { awardsOf, contractOf, kindOfSigned, lowestOf, outcomeOf, pointsOf, securityOf } from "./findings.js";
+import { awardsOf, contractOf, hasPoints, kindOfSigned, lowestOf, outcomeOf, pointsOf, securityOf } from "./findings.js";
 import { table } from "./forms.js";
 import { money, number } from "./money.js";
 import { language, say } from "./texts.js";
@@ -62,13 +62,13 @@ export function tenderTable(notice, lot, tenders, shown) {
   const contract = awardsOf(compiled, lot).map((award) => contractOf(compiled, award)).find(Boolean);
   const isSecured = terms.lots.find(({ id }) => id === lot.id)?.security > 0;
   const weight = terms.price_weight;
-  const hasPoints = byPoints && shown;
-  const heads = [say("see.tenderer"), say("see.price"), ...(hasPoints ? [say("see.points")] : []), say("see.found"),
+  const isByPoints = byPoints && hasPoints(shown);
+  const heads = [say("see.tenderer"), say("see.price"), ...(isByPoints ? [say("see.points")] : []), say("see.found"),
     ...(isSecured ? [say("see.security")] : [])];
   const rows = ranked(tenders, byPoints, shown).map((tender) => [who(tender, linked, Boolean(notice.ofTender)), priceOf(tender, lot.value.currency),
-    ...(hasPoints ? [pointsShown(shown.tenders.get(tender.receipt), weight, lowest)] : []), notice.ofTender?.(tender) ?? found(tender, shown, byPoints, contract),
+    ...(isByPoints ? [pointsShown(shown.tenders.get(tender.receipt), weight, lowest)] : []), notice.ofTender?.(tender) ?? found(tender, shown, byPoints, contract),
     ...(isSecured ? [securityShown(notice, lot, tender, shown)] : [])]);
-  const caption = say(hasPoints ? "see.table.points" : "see.table", { count: rows.length, lot: lot.id });
-  const rule = hasPoints && lowest !== null ? say("see.points.rule", { weight, lowest: number(lowest), rest: 100 - weight }) : null;
-  return [rule ? element("p", { class: "quiet" }, rule) : null, table(caption, heads, rows, { figures: hasPoints ? [1, 2] : [1] })];
+  const caption = say(isByPoints ? "see.table.points" : "see.table", { count: rows.length, lot: lot.id });
+  const rule = isByPoints && lowest !== null ? say("see.points.rule", { weight, lowest: number(lowest), rest: 100 - weight }) : null;
+  return [rule ? element("p", { class: "quiet" }, rule) : null, table(caption, heads, rows, { figures: isByPoints ? [1, 2] : [1] })];
 }
