@@ -286,7 +286,7 @@ ON = "ln -s /etc/procure/nginx.conf /etc/nginx/conf.d/procure.conf"
 EDITS = r"""
 sed -i 's/KEEP=48 DAYS=30/KEEP=96 DAYS=7/' procure-backup.service; sed -i 's,https://office.example,https://city.example,' procure-mirror.service
 sed -i 's,H" root,H" a@city.example b@city.example,' procure-failed@.service; sed -i 's/first.example/one.example/' procure-follow.service
-sed -i 's/right$/right --age 26/' procure-check.service; sed -i 's/=16G/=6G/' procure.service
+sed -i 's/right$/right --age 26/' procure-check.service; sed -i 's/^LimitAS=.*/LimitAS=6G/' procure.service
 sed -i 's/r_name .*;/r_name city.example;/; s,tls/key,tls/city,; s,10.0.0.0/8,10.7.0.0/16,; s/# include \(.*password\)/include \1/; s/# "~T/"~T/
     /\[::\]/d' /etc/procure/nginx.conf; sed -i 's/# anna .*/anna all;/' /etc/procure/clerks.conf
 """
@@ -300,12 +300,12 @@ AFTER = {
 }
 
 
-def earlier_package(to):
-    """Writes the package before this one."""
+def earlier_package(to, limit):
+    """Writes the package before this one, with a bound of memory."""
     for part in re.split(r"(?m)^==> ", Path(__file__).with_name("before_0.5.0.txt").read_text(encoding="utf-8"))[1:]:
         name, _, text = part.partition("\n")
         (to / "old" / name).parent.mkdir(parents=True, exist_ok=True)
-        (to / "old" / name).write_text(text, encoding="utf-8")
+        (to / "old" / name).write_text(text.replace("LimitAS=16G", f"LimitAS={limit}"), encoding="utf-8")
     (to / "old/DEBIAN/postinst").chmod(0o755)
     (to / "old/DEBIAN/conffiles").write_text("".join(f"/{name}\n" for name in sorted(files_in(to / "old")) if name.startswith("etc/")))
     (to / "old/DEBIAN/md5sums").write_text(run("sh", "-c", "md5sum lib/systemd/system/*", cwd=to / "old").stdout)
@@ -315,12 +315,12 @@ def earlier_package(to):
 class Upgraded:
     """A machine after an upgrade to the package of a tree. The earlier package was edited before that."""
 
-    def __init__(self, tree, to, edits):
+    def __init__(self, tree, to, edits, limit="16G"):
         if os.geteuid():
             pytest.skip("missing: an upgrade. Get it: run this as root")
         (to / "view").mkdir()
         (to / "after").mkdir()
-        earlier_package(to)
+        earlier_package(to, limit)
         for part in ("doc", "man", "procure/web"):
             shutil.rmtree(tree / "usr/share" / part)
         run("dpkg-deb", "--root-owner-group", "--build", tree, to / "new.deb", check=True)
@@ -343,10 +343,10 @@ class Upgraded:
 
 
 @pytest.mark.needs("nginx", "openssl", "unshare", "ip")
-@pytest.mark.parametrize("place", [ON, "cp /etc/procure/nginx.conf /etc/nginx/sites-enabled/office"], ids=["a_link", "a_copy"])
-def test_upgrade(tree, tmp_path, place):
+@pytest.mark.parametrize("place, limit", [(ON, "16G"), ("cp /etc/procure/nginx.conf /etc/nginx/sites-enabled/office", "4G")], ids=["a_link", "a_copy"])
+def test_upgrade(tree, tmp_path, place, limit):
     """It keeps each value, asks nothing, and leaves nothing of the earlier front."""
-    found = Upgraded(tree, tmp_path, f"{EDITS} {place}")
+    found = Upgraded(tree, tmp_path, f"{EDITS} {place}", limit)
     assert found.is_done and found.missing() == [] and found.left == set() and found.runs_the_front(), (found.told, found.said, found.later)
     assert "restart nginx" in found.said
 
