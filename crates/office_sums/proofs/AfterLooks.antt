@@ -7,10 +7,10 @@ module _ {S : Type 0} (M : Meaning S) (old middle new : S) (keeps : Keeps M old 
   fails_after puts Store h = record { middle = middle; looks = keeps; failed = h }
 
   -- a stop leaves what it could leave before the look-ups, or the changed tables
-  pub leaves_after : (Sums Numbers Entries : Tables → Type 0) (change : Tables → Tables) (u : Tables) → M.honest middle → M.may_leave middle u ⊎ ((t : Tables) → M.holds middle t → u ≡ change t)
-      → M.may_leave old u ⊎ ((t : Tables) → M.holds old t × Sums t × Numbers t × Entries t → u ≡ change t)
-  leaves_after Sums Numbers Entries change u honest (inl left) = inl (keeps.stop honest u left)
-  leaves_after Sums Numbers Entries change u honest (inr is) = inr (λ t held. is t (keeps.same honest t held.0))
+  pub leaves_after : (Sums Numbers Entries Rows : Tables → Type 0) (change : Tables → Tables) (u : Tables) → M.honest middle → M.may_leave middle u ⊎ ((t : Tables) → M.holds middle t → u ≡ change t)
+      → M.may_leave old u ⊎ ((t : Tables) → M.holds old t × Sums t × Numbers t × Entries t × Rows t → u ≡ change t)
+  leaves_after Sums Numbers Entries Rows change u honest (inl left) = inl (keeps.stop honest u left)
+  leaves_after Sums Numbers Entries Rows change u honest (inr is) = inr (λ t held. is t (keeps.same honest t held.0))
 
 -- nothing happened
 pub keeps_same : {S : Type 0} (M : Meaning S) (s : S) → Keeps M s s

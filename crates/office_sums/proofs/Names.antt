@@ -35,6 +35,7 @@ pub use Rattle.office_base.specs.declared.records.ReleaseRow.{ReleaseRow}
 pub use Rattle.office_base.specs.declared.shelf.ShelfFault.{ShelfFault}
 pub use Rattle.office_base.specs.declared.shelf.ShelfFault.TheVariants.{NoMemory, Store}
 pub use Rattle.office_sums.specs.Carried.{AreShifted, IsCarried, TouchesNone, AreReserved, leaves_contracts, reservation_of, keeps_lot, sums_before, FromContract, FromNewEntry, FromNewLot, FromNewRow, FromReserved, lot_put, either_row, last_lot, no_sums, Follows, KnowsEntries, IsTouch}
+pub use Rattle.office_sums.specs.Found.{KnowsRows}
 pub use Rattle.office_sums.specs.Numbered.{numbers_to, count_at, CountsReleases, ForgetsNotice, CountsOn}
 pub use Rattle.office_sums.specs.Remembered.{AreSums, SumsStay, sums_at, Forgets, Remembers, pots_by, sums_in, IsSummed, AreBalances}
 pub use Rattle.office_sums.specs.RememberingMeaning.{FailsAfterLooks}

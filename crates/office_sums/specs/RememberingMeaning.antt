@@ -1,9 +1,10 @@
--- How to read a store that remembers sums.
+-- How to read a store that remembers sums, numbers and rows.
 use Rattle.std.specs.Prelude.{List}
 use Rattle.office_base.specs.Shelves.{Meaning, Keeps}
 use Rattle.office_base.specs.Shutting.{Standing}
 use Rattle.office_base.specs.declared.puts.Put.{Put}
 use Rattle.office_sums.specs.Carried.{KnowsEntries}
+use Rattle.office_sums.specs.Found.{KnowsRows}
 use Rattle.office_sums.specs.Numbered.{CountsReleases}
 use Rattle.office_sums.specs.Remembered.{Remembers}
 use Rattle.office_sums.specs.declared.shelf.RememberingShelf.{RememberingShelf}
@@ -14,11 +15,11 @@ pub record FailsAfterLooks {S : Type 0} (M : Meaning S) (old new : S) (puts : Li
   pub looks : Keeps M old middle
   pub failed : M.has_failed middle new puts
 
--- It holds the tables that the store inside holds, and the sums and numbers that it remembers agree with these. A stop leaves what it leaves in the store
+-- It holds the tables that the store inside holds, and the sums, numbers and rows that it remembers agree with these. A stop leaves what it leaves in the store
 -- inside.
 abbrev pub remembering : {S : Type 0} → Meaning S → Meaning (RememberingShelf S)
 remembering M = record {
-  holds = λ s t. M.holds s.shelf t × Remembers s.known t × CountsReleases s.counts t × KnowsEntries s.listed t;
+  holds = λ s t. M.holds s.shelf t × Remembers s.known t × CountsReleases s.counts t × KnowsEntries s.listed t × KnowsRows s.found t;
   honest = λ s. M.honest s.shelf;
   may_leave = λ s t. M.may_leave s.shelf t;
   leaves_sound = λ s. M.leaves_sound s.shelf;

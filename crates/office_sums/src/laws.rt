@@ -2,6 +2,7 @@
 ghost use Rattle.std.specs.Prelude.{[], None};
 ghost use Rattle.office_base.specs.Tables.{Tables};
 ghost use Rattle.office_sums.specs.Carried.{KnowsEntries};
+ghost use Rattle.office_sums.specs.Found.{KnowsRows, no_answers};
 ghost use Rattle.office_sums.specs.Numbered.{CountsReleases};
 ghost use Rattle.office_sums.specs.Remembered.{Remembers, SumsStay};
 ghost use Rattle.office_sums.specs.Touched.{AmountsStay};
@@ -29,4 +30,9 @@ pub fn nothing_counted()
 /// If no entries were listed, this agrees with any tables.
 pub fn nothing_listed()
     ensures { (t : Tables) → KnowsEntries None t }
+{}
+
+/// If no answer is remembered, this agrees with any tables.
+pub fn nothing_found()
+    ensures { (t : Tables) → KnowsRows no_answers t }
 {}

@@ -4,6 +4,7 @@
 pub mod asking;
 pub mod carried;
 pub mod carrying;
+pub mod found;
 pub mod laws;
 pub mod lookups;
 pub mod numbered;

@@ -1,4 +1,4 @@
-//! The look-ups of a store that remembers sums: those of the store inside, but for balances and the numbers of releases.
+//! The look-ups of a store that remembers: those of the store inside, but for balances, the numbers of releases, and rows that were found since the last change.
 ghost use Rattle.office_sums.specs.RememberingMeaning.{remembering};
 
 use crate::asking::{self, sum_row};
@@ -22,13 +22,34 @@ macro_rules! counted {
     }};
 }
 
+// Passes on the answer that is remembered for a key, or else that of a call, which is then remembered. Counts its fault.
+macro_rules! remembered {
+    ($shelf:ident, $rows:ident, $key:expr, $remember:ident, $asked:expr, $call:expr) => {{
+        if let Some(answer) = $shelf.found.$rows.get($key) {
+            return Ok(answer);
+        }
+        let answer = $call;
+        if let Ok(row) = &answer {
+            $shelf.found.$remember($asked, row);
+        }
+        $shelf.told(answer)
+    }};
+}
+
 impl<H: Lookups> Lookups for RememberingShelf<H> {
     ghost meaning = { remembering H.meaning };
 
     ghost held_sorted = { λ shelf t held. H.held_sorted shelf.shelf t held.0 };
 
     fn get_line(&mut self, line: &Id) -> Result<Option<LineRow>, ShelfFault> {
-        counted!(self, self.shelf.get_line(line))
+        remembered!(
+            self,
+            lines,
+            line,
+            remember_line,
+            line,
+            self.shelf.get_line(line)
+        )
     }
 
     fn get_batch(&mut self, batch: &Id) -> Result<Option<BatchRow>, ShelfFault> {
@@ -36,15 +57,37 @@ impl<H: Lookups> Lookups for RememberingShelf<H> {
     }
 
     fn get_tenderer(&mut self, tenderer: &Id) -> Result<Option<TendererRow>, ShelfFault> {
-        counted!(self, self.shelf.get_tenderer(tenderer))
+        remembered!(
+            self,
+            tenderers,
+            tenderer,
+            remember_tenderer,
+            tenderer,
+            self.shelf.get_tenderer(tenderer)
+        )
     }
 
     fn get_notice(&mut self, notice: &Id) -> Result<Option<NoticeRow>, ShelfFault> {
-        counted!(self, self.shelf.get_notice(notice))
+        remembered!(
+            self,
+            notices,
+            notice,
+            remember_notice,
+            notice,
+            self.shelf.get_notice(notice)
+        )
     }
 
     fn get_lot(&mut self, notice: &Id, lot: &Id) -> Result<Option<LotRow>, ShelfFault> {
-        counted!(self, self.shelf.get_lot(notice, lot))
+        let key = (*notice, *lot);
+        remembered!(
+            self,
+            lots,
+            &key,
+            remember_lot,
+            key,
+            self.shelf.get_lot(notice, lot)
+        )
     }
 
     fn get_envelope(&mut self, receipt: AskedNumber) -> Result<Option<EnvelopeRow>, ShelfFault> {
@@ -60,11 +103,25 @@ impl<H: Lookups> Lookups for RememberingShelf<H> {
     }
 
     fn get_award(&mut self, award: AskedNumber) -> Result<Option<AwardRow>, ShelfFault> {
-        counted!(self, self.shelf.get_award(award))
+        remembered!(
+            self,
+            awards,
+            &award.get(),
+            remember_award,
+            award,
+            self.shelf.get_award(award)
+        )
     }
 
     fn get_contract(&mut self, contract: AskedNumber) -> Result<Option<ContractRow>, ShelfFault> {
-        counted!(self, self.shelf.get_contract(contract))
+        remembered!(
+            self,
+            contracts,
+            &contract.get(),
+            remember_contract,
+            contract,
+            self.shelf.get_contract(contract)
+        )
     }
 
     fn get_entry(

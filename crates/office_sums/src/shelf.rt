@@ -1,4 +1,4 @@
-//! A store that remembers the sums of budget lines, and the numbers of releases.
+//! A store that remembers the sums of budget lines, the numbers of releases, and the rows that were found since the last change.
 ghost use Rattle.std.specs.Prelude.{◌≡◌, [], None};
 ghost use Rattle.office_base.specs.Faults.{count_after, one_fault_more};
 ghost use Rattle.office_base.specs.Shelves.{Keeps};
@@ -8,6 +8,7 @@ ghost use Rattle.office_sums.specs.RememberingMeaning.{remembering, remembering_
 
 use crate::carried::EntrySums;
 use crate::carrying::follow;
+use crate::found::Found;
 use crate::laws::{nothing_counted, nothing_listed, nothing_remembered};
 use crate::numbered::RememberedCounts;
 use crate::remembered::RememberedSums;
@@ -28,6 +29,8 @@ pub struct RememberingShelf<H> {
     pub counts: RememberedCounts,
     /// The sums of the entries that were listed last, since the last change.
     pub listed: Option<EntrySums>,
+    /// The rows that were found since the last change.
+    pub found: Found,
     /// The number of calls that were answered with a fault.
     pub faults: u64,
 }
@@ -40,6 +43,7 @@ impl<H: Drop> Drop for RememberingShelf<H> {
             known: _,
             counts: _,
             listed: _,
+            found: _,
             faults: _,
         } = self;
     }
@@ -63,6 +67,7 @@ impl<H: Lookups> RememberingShelf<H> {
             known: RememberedSums::new(alloc),
             counts: RememberedCounts::new(alloc),
             listed: None,
+            found: Found::new(alloc),
             faults: 0,
         }
     }
@@ -77,6 +82,7 @@ impl<H: Lookups> RememberingShelf<H> {
             known: _,
             counts: _,
             listed: _,
+            found: _,
             faults: _,
         } = self;
         shelf
@@ -102,6 +108,7 @@ impl<H: Lookups> RememberingShelf<H> {
         ensures known { self.new.known ≡ self.old.known }
         ensures counts { self.new.counts ≡ self.old.counts }
         ensures listed { self.new.listed ≡ self.old.listed }
+        ensures found { self.new.found ≡ self.old.found }
         ensures counted { self.new.faults ≡ one_fault_more self.old.faults }
     {
         self.faults = self.faults.saturating_add(1);
@@ -115,6 +122,7 @@ impl<H: Lookups> RememberingShelf<H> {
         ensures known { self.new.known ≡ self.old.known }
         ensures counts { self.new.counts ≡ self.old.counts }
         ensures listed { self.new.listed ≡ self.old.listed }
+        ensures found { self.new.found ≡ self.old.found }
         ensures counted { self.new.faults ≡ count_after result self.old.faults }
     {
         match answer {
@@ -129,6 +137,7 @@ impl<H: Shelf> Shelf for RememberingShelf<H> {
         self.follow(&puts);
         self.counts.follow(&puts);
         self.listed = None;
+        self.found.forget_all();
         match self.shelf.apply(puts) {
             Ok(()) => Ok(()),
             Err(fault) => {

@@ -6,6 +6,7 @@ use Rattle.office_values.specs.declared.settings.Settings.{Settings}
 use Rattle.office_base.specs.Tables.{Tables, no_tables}
 use Rattle.office_publications.specs.Standing.{IsReached}
 use Rattle.office_memory.specs.MemoryMeaning.{memory_meaning}
+use Rattle.office_sums.specs.Found.{no_answers}
 use Rattle.office_sums.specs.RememberingMeaning.{remembering}
 use Rattle.office_sums.specs.declared.shelf.RememberingShelf.{RememberingShelf}
 use Rattle.office_http.specs.Answering.{Held, StandsAs}
@@ -14,7 +15,7 @@ use Rattle.procure_programs.specs.Serving.{StandsIn}
 
 -- A store that remembers, once it has forgotten everything.
 abbrev pub forgetful : {S : Type 0} → RememberingShelf S → RememberingShelf S
-forgetful s = record s { known = []; counts = []; listed = None }
+forgetful s = record s { known = []; counts = []; listed = None; found = no_answers }
 
 -- The empty office under these settings.
 abbrev pub empty_office : Settings → Held

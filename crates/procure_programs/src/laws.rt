@@ -4,7 +4,7 @@ ghost use Rattle.procure_programs.specs.Serving.{DaysFollow, KeysFollow};
 
 use office_machine::laws::order;
 use office_publications::laws::keeping;
-use office_sums::laws::{nothing_counted, nothing_listed, nothing_remembered};
+use office_sums::laws::{nothing_counted, nothing_found, nothing_listed, nothing_remembered};
 
 /// An office continues from day to day: if a run finds the files as another run left them, both together are one run. This is also true if the clerk has
 /// another key from then on, because nothing that the office publishes depends on it.
@@ -22,4 +22,5 @@ pub fn premises()
     nothing_remembered();
     nothing_counted();
     nothing_listed();
+    nothing_found();
 }

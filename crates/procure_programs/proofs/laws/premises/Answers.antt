@@ -15,6 +15,7 @@ returns c =
             c.nothing_remembered.ensures h.tables,
             c.nothing_counted.ensures h.tables,
             c.nothing_listed.ensures h.tables,
+            c.nothing_found.ensures h.tables,
           ),
         ),
         it,
