@@ -1,10 +1,11 @@
-//! The answers of look-ups since the last change, so that a command which asks for a row twice reads it once.
+//! The answers of look-ups, until a change of their table, so that a command which asks for a row twice reads it once.
 ghost use Rattle.std.specs.Prelude.{◌≡◌, List, [], IfOk, IfSome};
 ghost use Rattle.std.specs.FinMap.{IsAntisymmetric};
 ghost use Rattle.office_base.specs.Rows.{row_at};
-ghost use Rattle.office_base.specs.Tables.{Tables, award_at, contract_at, line_at, lot_at, notice_at, tenderer_at};
+ghost use Rattle.office_base.specs.Tables.{Tables, after_put, after_puts, award_at, contract_at, line_at, lot_at, notice_at, tenderer_at};
 ghost use Rattle.office_sums.specs.Found.{answer_at, KnowsRows, AreAnswers};
 
+use office_base::puts::Put;
 use office_base::records::{AwardRow, ContractRow, LineRow, LotRow, NoticeRow, TendererRow};
 use office_base::row::{Row, copy_of};
 use office_values::given::AskedNumber;
@@ -126,6 +127,30 @@ impl Found {
         self.lots.forget_all();
         self.awards.forget_all();
         self.contracts.forget_all();
+    }
+
+    // Forgets the answers about the table that a change puts a row into.
+    fn follow_one(&mut self, put: &Put)
+        ensures { (t : Tables) → KnowsRows self.old t → KnowsRows self.new (after_put put.now t) }
+    {
+        match put {
+            Put::Line(_) => self.lines.forget_all(),
+            Put::Tenderer(_) => self.tenderers.forget_all(),
+            Put::Notice(_) => self.notices.forget_all(),
+            Put::Lot(_) => self.lots.forget_all(),
+            Put::Award(_) => self.awards.forget_all(),
+            Put::Contract(_) => self.contracts.forget_all(),
+            _ => {}
+        }
+    }
+
+    /// Forgets the answers about the tables that these changes put rows into. It allocates no memory.
+    pub fn follow(&mut self, puts: &[Put])
+        ensures { (t : Tables) → KnowsRows self.old t → KnowsRows self.new (after_puts puts.now t) }
+    {
+        for put in puts {
+            self.follow_one(put);
+        }
     }
 
     /// Remembers the answer for a line.

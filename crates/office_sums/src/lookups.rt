@@ -1,4 +1,4 @@
-//! The look-ups of a store that remembers: those of the store inside, but for balances, the numbers of releases, and rows that were found since the last change.
+//! The look-ups of a store that remembers: those of the store inside, but for balances, the numbers of releases, and rows that were found before.
 ghost use Rattle.office_sums.specs.RememberingMeaning.{remembering};
 
 use crate::asking::{self, sum_row};

@@ -1,4 +1,4 @@
-//! A store that remembers the sums of budget lines, the numbers of releases, and the rows that were found since the last change.
+//! A store that remembers the sums of budget lines, the numbers of releases, and rows that were found.
 ghost use Rattle.std.specs.Prelude.{◌≡◌, [], None};
 ghost use Rattle.office_base.specs.Faults.{count_after, one_fault_more};
 ghost use Rattle.office_base.specs.Shelves.{Keeps};
@@ -29,7 +29,7 @@ pub struct RememberingShelf<H> {
     pub counts: RememberedCounts,
     /// The sums of the entries that were listed last, since the last change.
     pub listed: Option<EntrySums>,
-    /// The rows that were found since the last change.
+    /// The rows that were found since the last change of their table.
     pub found: Found,
     /// The number of calls that were answered with a fault.
     pub faults: u64,
@@ -93,6 +93,7 @@ impl<H: Lookups> RememberingShelf<H> {
         ensures keeps { Keeps H.meaning self.old.shelf self.new.shelf }
         ensures right { H.meaning.honest self.new.shelf → (t : Tables) → H.meaning.holds self.old.shelf t → KnowsEntries self.old.listed t → Follows self.old.known self.new.known puts.now t }
         ensures counts { self.new.counts ≡ self.old.counts }
+        ensures found { self.new.found ≡ self.old.found }
         ensures counted { self.new.faults ≡ self.old.faults }
     {
         nothing_remembered();
@@ -137,12 +138,13 @@ impl<H: Shelf> Shelf for RememberingShelf<H> {
         self.follow(&puts);
         self.counts.follow(&puts);
         self.listed = None;
-        self.found.forget_all();
+        self.found.follow(&puts);
         match self.shelf.apply(puts) {
             Ok(()) => Ok(()),
             Err(fault) => {
                 self.known.forget_all();
                 self.counts.forget_all();
+                self.found.forget_all();
                 self.faults = self.faults.saturating_add(1);
                 Err(fault)
             }

@@ -19,7 +19,8 @@ returns-in-Ok g c =
               (subst (λ (ps : List Put). CountsOn c.follow.new.self.counts c.follow-2.new.self ps t) c.deref-2.ensures.value (c.follow-2.ensures t)).right
                   (g.met.H.Lookups.held_sorted _ t held.0) (subst (λ k. CountsReleases k t) (sym follow.counts) held.2),
               record { are = tt },
-              c.forget_all.ensures (after_puts c.args.puts.items t),
+              subst (λ (ps : List Put). KnowsRows c.follow-3.new.self (after_puts ps t)) c.deref-3.ensures.value
+                  (c.follow-3.ensures t (subst (λ k. KnowsRows k t) (sym follow.found) held.4)),
             );
         none = λ honest t held. tt;
         stop_all = λ honest t held. made.stop_all honest t (looked.same (made.before honest) t held.0);
@@ -42,10 +43,10 @@ returns-in-Err g c =
         all = λ honest t held. tt;
         none = λ honest t held. (
           made.none honest t (looked.same (made.before honest) t held.0),
-          subst (λ k. Remembers k t) (sym c.forget_all-in-Err.ensures) (record { each = λ line sums found. none_known line sums found }),
-          subst (λ k. CountsReleases k t) (sym c.forget_all-in-Err-2.ensures) (none_counted t),
+          subst (λ k. Remembers k t) (sym c.forget_all.ensures) (record { each = λ line sums found. none_known line sums found }),
+          subst (λ k. CountsReleases k t) (sym c.forget_all-in-Err.ensures) (none_counted t),
           record { are = tt },
-          c.forget_all.ensures t,
+          c.forget_all-in-Err-2.ensures t,
         );
         stop_all = λ honest t held. tt;
         stop_none = λ honest u left. leaves_after M _ _ c.apply.new.self looked (Remembers c.args.self.now.known) (CountsReleases c.args.self.now.counts) (KnowsEntries c.args.self.now.listed) (KnowsRows c.args.self.now.found) (after_puts puts) u (made.before honest) (made.stop_none honest u left);
