@@ -1,4 +1,4 @@
-//! Questions to an office on disks about one row of each table whose columns may hold a wrong value.
+//! Questions to an office on disks, each about one row.
 use crate::office::OfficeOnDisks;
 use office_base::counts::Sequence;
 use office_base::shelf::{Lookups, ShelfFault};
