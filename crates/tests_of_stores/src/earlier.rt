@@ -83,6 +83,26 @@ fn is_complete(alloc: Global, disks: &Disks, rows: &[u8]) -> Result<bool, Wrong>
     Ok(answers.as_slice() == rows)
 }
 
+// Whether the office is the same after it was opened once, and twice.
+fn is_migrated(alloc: Global, file: Former) -> Result<bool, Wrong> {
+    let disks = left(alloc, file)?;
+    let rows = rows_wanted(alloc, &disks, file.is_late)?;
+    let once = reopened(alloc, disks)?;
+    let is_once = is_complete(alloc, &once, &rows)?;
+    let twice = reopened(alloc, once)?;
+    Ok(is_once && is_complete(alloc, &twice, &rows)?)
+}
+
+// Tries twice, because a test may refuse one allocation.
+#[test]
+fn a_file_of_version_one_becomes_one_of_version_two(rt: HostRuntime) {
+    let alloc = rt.alloc();
+    let file = ten_notices();
+    assert!(rt;
+        matches!(is_migrated(alloc, file), Ok(true)) || matches!(is_migrated(alloc, file), Ok(true))
+    );
+}
+
 // Files, whether they had version 1, and whether they are the whole office, in their version and then in version 2 after they were opened again.
 #[derive(Drop)]
 struct Looked {
@@ -212,14 +232,20 @@ fn is_stopped(alloc: Global, file: Former) -> Result<bool, Wrong> {
     Ok(log.first > 0 && log.second > 0 && db.second > 0)
 }
 
-// Tries twice, because a test may refuse one allocation.
 #[test]
 fn its_opening_is_stopped(rt: HostRuntime) {
     let alloc = rt.alloc();
-    for file in [before_late_rules(), running(), ten_notices()] {
-        assert!(rt;
-            matches!(is_stopped(alloc, file), Ok(true))
-                || matches!(is_stopped(alloc, file), Ok(true))
-        );
-    }
+    let file = before_late_rules();
+    assert!(rt;
+        matches!(is_stopped(alloc, file), Ok(true)) || matches!(is_stopped(alloc, file), Ok(true))
+    );
+}
+
+#[test]
+fn its_opening_with_late_rules_is_stopped(rt: HostRuntime) {
+    let alloc = rt.alloc();
+    let file = running();
+    assert!(rt;
+        matches!(is_stopped(alloc, file), Ok(true)) || matches!(is_stopped(alloc, file), Ok(true))
+    );
 }

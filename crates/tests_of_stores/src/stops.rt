@@ -218,11 +218,62 @@ fn leaves_all_or_none(alloc: Global, command: usize) -> bool {
     stopped_in_life(alloc, command).is_ok()
 }
 
-// Tries twice, because a test may refuse one allocation.
 #[test]
-fn each_command_is_stopped(rt: HostRuntime) {
+fn a_registration_is_stopped(rt: HostRuntime) {
     let alloc = rt.alloc();
-    for command in 1..11 {
-        assert!(rt; leaves_all_or_none(alloc, command) || leaves_all_or_none(alloc, command));
-    }
+    assert!(rt; leaves_all_or_none(alloc, 1) || leaves_all_or_none(alloc, 1));
+}
+
+#[test]
+fn an_import_is_stopped(rt: HostRuntime) {
+    let alloc = rt.alloc();
+    assert!(rt; leaves_all_or_none(alloc, 2) || leaves_all_or_none(alloc, 2));
+}
+
+#[test]
+fn a_publication_is_stopped(rt: HostRuntime) {
+    let alloc = rt.alloc();
+    assert!(rt; leaves_all_or_none(alloc, 3) || leaves_all_or_none(alloc, 3));
+}
+
+#[test]
+fn a_presentation_is_stopped(rt: HostRuntime) {
+    let alloc = rt.alloc();
+    assert!(rt; leaves_all_or_none(alloc, 4) || leaves_all_or_none(alloc, 4));
+}
+
+#[test]
+fn an_opening_is_stopped(rt: HostRuntime) {
+    let alloc = rt.alloc();
+    assert!(rt; leaves_all_or_none(alloc, 5) || leaves_all_or_none(alloc, 5));
+}
+
+#[test]
+fn an_examination_is_stopped(rt: HostRuntime) {
+    let alloc = rt.alloc();
+    assert!(rt; leaves_all_or_none(alloc, 6) || leaves_all_or_none(alloc, 6));
+}
+
+#[test]
+fn an_award_is_stopped(rt: HostRuntime) {
+    let alloc = rt.alloc();
+    assert!(rt; leaves_all_or_none(alloc, 7) || leaves_all_or_none(alloc, 7));
+}
+
+#[test]
+fn a_signature_is_stopped(rt: HostRuntime) {
+    let alloc = rt.alloc();
+    assert!(rt; leaves_all_or_none(alloc, 8) || leaves_all_or_none(alloc, 8));
+}
+
+#[test]
+fn a_payment_is_stopped(rt: HostRuntime) {
+    let alloc = rt.alloc();
+    assert!(rt; leaves_all_or_none(alloc, 9) || leaves_all_or_none(alloc, 9));
+}
+
+#[test]
+fn an_end_is_stopped(rt: HostRuntime) {
+    let alloc = rt.alloc();
+    assert!(rt; leaves_all_or_none(alloc, 10) || leaves_all_or_none(alloc, 10));
 }
