@@ -47,3 +47,7 @@ UPDATE notices SET state = 'closed';
 -- a clock past its last moment
 PRAGMA ignore_check_constraints = ON;
 UPDATE office SET moment = 4102444800;
+-- a view of the name late_rules
+CREATE VIEW late_rules AS SELECT line FROM lines;
+-- an index of the name notices_2
+CREATE INDEX notices_2 ON lots (title);

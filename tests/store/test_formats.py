@@ -2,9 +2,9 @@
 
 SQLite makes the files of `ten`, of version 1, and copies.sql. (test_versions.py opens the small ones.) The first has many more notices and nothing else:
 the program rewrites notices, so this is the worst case. The second has many more procurements, each from its publication to the end of its contract. The ledger
-is the one that SQLite computes from the rows of the original file. Each row is unchanged, except that notices have an additional 0. A kill leaves version 1 or
-version 2, whole. Each test prints the ratio of the first opening's time to that of the next ones, and its additional memory (`pytest -s`); `make soak` takes
-larger files.
+is the one that SQLite computes from the rows of the original file. Each row is unchanged, except that notices have an additional 0. All notices are printed,
+page by page. A kill leaves version 1 or version 2, whole. Each test prints the ratio of the first opening's time to that of the next ones, and its additional
+memory (`pytest -s`); `make soak` takes larger files.
 """
 import os
 import random
@@ -18,7 +18,7 @@ import pytest
 from office_kit.common import CONFIG, peak, running
 from office_kit.store import pages
 from office_kit.store.earlier import first, in_version_2, made, statements_in
-from office_kit.store.files import ledger_of, rows_of, sums_in, unlike
+from office_kit.store.files import ledger_of, printed, rows_of, sums_in, unlike
 
 # How often a file is opened again, and the seconds between two looks at the memory.
 OPENINGS, LOOK = 5, 0.002
@@ -69,6 +69,7 @@ def test_large_file(program, tmp_path, what, size, seed, is_long):
     rows = in_version_2(rows_of(large))
     shutil.copy(large, path)
     longest = measured(program, path, rows)
+    assert [line.split("\t")[0] for line in printed(program, path, "notices").stdout.splitlines()] == sorted(row[0] for row in rows["notices_2"])
     pages.check_size(path, size)
     for _ in range(kills):
         for part in tmp_path.glob("opened.db*"):

@@ -19,7 +19,7 @@ from office_kit.store.refusing import counted, plays
 
 pytestmark = [pytest.mark.long, pytest.mark.needs("cc")]
 # The crates whose tests try a step a second time if the first try finds no memory, and the most refusals in each test, spread evenly over its allocations.
-CRATES, MOST = ("tests_of_tables", "tests_of_stores", "tests_of_faults", "tests_of_looks"), int(os.environ.get("MOST", "300"))
+CRATES, MOST = ("tests_of_stores", "tests_of_faults", "tests_of_looks"), int(os.environ.get("MOST", "300"))
 # The plays of transcripts: their files and titles.
 PLAYS = (("imports.txt", "a file without rows"), ("imports.txt", "a batch is taken once"), ("imports.txt", "a file has 500 rows at most"),
          ("imports.txt", "a bad row is numbered"), ("imports.txt", "an appropriation has a bound"), ("imports.txt", "a cut takes no more than is free"),

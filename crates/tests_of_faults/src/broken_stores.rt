@@ -107,16 +107,14 @@ fn a_store_that_breaks_changes_nothing(rt: HostRuntime) {
                 ENDED_LINE,
                 SEEN
             ]
-        ),
-        "to the end"
+        )
     );
     assert!(rt;
         breaks_anywhere(
             alloc,
             Sums::AddedUp,
             &[MONEY, TENDERERS, NOTICE, CANCELLED, CANCELLED_LEDGER]
-        ),
-        "cancelled"
+        )
     );
 }
 

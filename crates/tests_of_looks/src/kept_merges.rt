@@ -7,7 +7,6 @@ use office_base::shelf::Shelf;
 use office_memory::memory::MemoryShelf;
 use office_values::id::Id;
 use std::alloc::Global;
-use tests_sql_office::office::in_sql;
 use tests_transcripts::published::{AMENDED, PUBLISHED};
 use tests_transcripts::session::played;
 use tests_transcripts::setup::{MONEY, NOTICE, TENDERERS};
@@ -57,17 +56,9 @@ fn merges_kept<H: Shelf + Drop>(alloc: Global, one: H, other: H) -> Option<[bool
     all_of(in_one, copied, looked_at, keeps_merge(&mut other, &notice))
 }
 
-// The answers over offices in memory.
-fn merges_in_memory(alloc: Global) -> Option<[bool; 4]> {
+// The answers over two offices.
+fn merges(alloc: Global) -> Option<[bool; 4]> {
     merges_kept(alloc, MemoryShelf::new(alloc), MemoryShelf::new(alloc))
-}
-
-// The answers over offices in SQL.
-fn merges_in_sql(alloc: Global) -> Option<[bool; 4]> {
-    match (in_sql(alloc), in_sql(alloc)) {
-        (Some(one), Some(other)) => merges_kept(alloc, one, other),
-        _ => None,
-    }
 }
 
 // Whether the first of two tries that doesn't fail is right, because a test may refuse one allocation.
@@ -89,7 +80,7 @@ fn isnt_merged<H: Shelf + Drop>(alloc: Global, one: H, other: H, text: &str) -> 
     Some(!keeps_merge(&mut other, &notice)?)
 }
 
-fn isnt_merged_in_memory(alloc: Global, text: &str) -> Option<bool> {
+fn isnt_merged_anew(alloc: Global, text: &str) -> Option<bool> {
     isnt_merged(
         alloc,
         MemoryShelf::new(alloc),
@@ -98,54 +89,33 @@ fn isnt_merged_in_memory(alloc: Global, text: &str) -> Option<bool> {
     )
 }
 
-fn isnt_merged_in_sql(alloc: Global, text: &str) -> Option<bool> {
-    match (in_sql(alloc), in_sql(alloc)) {
-        (Some(one), Some(other)) => isnt_merged(alloc, one, other, text),
-        _ => None,
-    }
-}
-
 // Tries twice, because a test may refuse one allocation.
-fn is_right_in_memory(alloc: Global, text: &str) -> bool {
-    matches!(isnt_merged_in_memory(alloc, text), Some(true))
-        || matches!(isnt_merged_in_memory(alloc, text), Some(true))
-}
-
-fn is_right_in_sql(alloc: Global, text: &str) -> bool {
-    matches!(isnt_merged_in_sql(alloc, text), Some(true))
-        || matches!(isnt_merged_in_sql(alloc, text), Some(true))
+fn is_right(alloc: Global, text: &str) -> bool {
+    matches!(isnt_merged_anew(alloc, text), Some(true))
+        || matches!(isnt_merged_anew(alloc, text), Some(true))
 }
 
 #[test]
 fn releases_that_no_office_writes_are_not_merged(rt: HostRuntime) {
     let alloc = rt.alloc();
-    assert!(rt; is_right_in_memory(alloc, "5"));
-    assert!(rt; is_right_in_memory(alloc, "[]"));
+    assert!(rt; is_right(alloc, "5"));
     assert!(rt;
-        is_right_in_memory(
+        is_right(
             alloc,
             r#"{"ocid":"ocds-a1b2c3-N1","date":"2026-02-01T09:00:00Z"}"#
         )
     );
     assert!(rt;
-        is_right_in_memory(
+        is_right(
             alloc,
             r#"{"date":"2026-02-01T09:00:00Z","ocid":"ocds-a1b2c3-N2"}"#
         )
     );
-    assert!(rt; is_right_in_memory(alloc, r#"{"date":20260201,"ocid":"ocds-a1b2c3-N1"}"#));
-    assert!(rt; is_right_in_sql(alloc, "5"));
-    assert!(rt;
-        is_right_in_sql(
-            alloc,
-            r#"{"date":"2026-02-01T09:00:00Z","ocid":"ocds-a1b2c3-N2"}"#
-        )
-    );
+    assert!(rt; is_right(alloc, r#"{"date":20260201,"ocid":"ocds-a1b2c3-N1"}"#));
 }
 
 #[test]
 fn kept_merges(rt: HostRuntime) {
     let alloc = rt.alloc();
-    assert!(rt; are_right(merges_in_memory(alloc), merges_in_memory(alloc)));
-    assert!(rt; are_right(merges_in_sql(alloc), merges_in_sql(alloc)));
+    assert!(rt; are_right(merges(alloc), merges(alloc)));
 }

@@ -1,4 +1,5 @@
-//! Queries for rows to which no commands lead: a contract from which more money went out than came in, and a tender that was opened but not read.
+//! Queries for rows to which no commands lead: a contract from which more money went out than came in, and a tender that was opened but not read. Here is also
+//! the evaluation of 5,000 tenders, which is larger than any request.
 use office_base::counts::TenderLength;
 use office_base::puts::Put;
 use office_base::reading::Reading;
@@ -16,12 +17,14 @@ use office_values::moment::Moment;
 use office_values::money::Total;
 use office_values::refusal::Refusal;
 use std::alloc::Global;
-use tests_sql_office::office::in_sql;
 use tests_transcripts::session::{desk_over, played};
 use tests_transcripts::setup::{MONEY, NOTICE, TENDERERS};
 
 // The answer to a query. None if memory is too small.
 type Told = Option<Result<Vec<u8>, Refusal>>;
+
+// The tenders of a large evaluation.
+const TENDERS: u64 = 5000;
 
 // A contract of this amount.
 fn contract_over(signed: u64) -> Option<ContractRow> {
@@ -67,10 +70,15 @@ fn told_of_contract<H: Shelf + Drop>(alloc: Global, shelf: H, signed: u64) -> To
     Some(desk.look(&Caller::Clerk, Query::Contract { contract }))
 }
 
-// An opened tender with this reading.
-fn opened_tender(reading: Option<Reading>) -> Option<EnvelopeRow> {
+// An opened tender with this receipt, which doesn't conform, or wasn't read.
+fn opened_tender(receipt: u64, is_read: bool) -> Option<EnvelopeRow> {
+    let reading = if is_read {
+        Some(Reading::Nonconforming)
+    } else {
+        None
+    };
     Some(EnvelopeRow {
-        receipt: GivenNumber::read(1)?,
+        receipt: GivenNumber::read(receipt)?,
         notice: Id::read(b"N1")?,
         lot: Id::read(b"L1")?,
         tenderer: Id::read(b"T1")?,
@@ -86,23 +94,26 @@ fn opened_tender(reading: Option<Reading>) -> Option<EnvelopeRow> {
     })
 }
 
-// The notice after its opening, with this tender.
-fn opened(alloc: Global, row: NoticeRow, reading: Option<Reading>) -> Option<Vec<Put>> {
+// The notice after its opening, with this many tenders.
+fn opened(alloc: Global, row: NoticeRow, count: u64, is_read: bool) -> Option<Vec<Put>> {
     let mut row = row;
     row.state = NoticeState::Opened;
     row.opened = Some(row.deadline);
     let mut puts = Vec::new(alloc);
     puts.push(Put::Notice(row)).ok()?;
-    puts.push(Put::Envelope(opened_tender(reading)?)).ok()?;
+    for number in 0..count {
+        let tender = opened_tender(number.saturating_add(1), is_read)?;
+        puts.push(Put::Envelope(tender)).ok()?;
+    }
     Some(puts)
 }
 
 // The clerk's answer for the evaluation of this notice.
-fn told_of_tender<H: Shelf + Drop>(alloc: Global, shelf: H, reading: Option<Reading>) -> Told {
+fn told_of_tenders<H: Shelf + Drop>(alloc: Global, shelf: H, count: u64, is_read: bool) -> Told {
     let notice = Id::read(b"N1")?;
     let mut shelf = played(alloc, shelf, 0, &[MONEY, TENDERERS, NOTICE]).ok()?;
     let row = shelf.get_notice(&notice).ok()??;
-    shelf.apply(opened(alloc, row, reading)?).ok()?;
+    shelf.apply(opened(alloc, row, count, is_read)?).ok()?;
     let mut desk = desk_over(alloc, shelf).ok()?;
     Some(desk.look(&Caller::Clerk, Query::Evaluation { notice }))
 }
@@ -121,45 +132,42 @@ fn is_text(told: Told, wanted: &[u8]) -> bool {
 static CONTRACT: &[u8] =
     b"{\"contract\":1,\"ended\":null,\"entries\":[{\"amount\":1,\"entry\":\"P1\",\"kind\":\"payment\",\"moment\":\"1970-01-01T00:00:00Z\",\"rationale\":null}],\"how\":null,\"lot\":\"L1\",\"moment\":\"1970-01-01T00:00:00Z\",\"notice\":\"N1\",\"outstanding\":0,\"paid\":1,\"released\":0,\"signed\":1,\"tenderer\":\"T1\"}";
 
-static EVALUATION: &[u8] =
-    b"EVALUATION\tN1\nlot\tL1\tundecided\ntender\t1\tT1\tnonconforming\nEND\n";
+// The expected evaluation of this many tenders that don't conform.
+fn evaluation(alloc: Global, count: u64) -> Option<Vec<u8>> {
+    let mut text = Vec::new(alloc);
+    text.extend_from_slice(b"EVALUATION\tN1\nlot\tL1\tundecided\n")
+        .ok()?;
+    for number in 0..count {
+        let number = number.saturating_add(1);
+        let line = format!(in alloc; "tender\t{number}\tT1\tnonconforming\n").ok()?;
+        text.extend_from_slice(line.as_bytes()).ok()?;
+    }
+    text.extend_from_slice(b"END\n").ok()?;
+    Some(text)
+}
 
 // Whether a contract from which no more money went out than came in is shown, and another one isn't.
-fn shows_contracts<H: Shelf + Drop>(alloc: Global, one: H, other: H) -> bool {
-    is_text(told_of_contract(alloc, one, 1), CONTRACT)
-        && is_unavailable(told_of_contract(alloc, other, 0))
+fn shows_contracts(alloc: Global) -> bool {
+    is_text(
+        told_of_contract(alloc, MemoryShelf::new(alloc), 1),
+        CONTRACT,
+    ) && is_unavailable(told_of_contract(alloc, MemoryShelf::new(alloc), 0))
 }
 
-// Whether the evaluation of a tender that was read is shown, and that of another tender isn't.
-fn shows_evaluations<H: Shelf + Drop>(alloc: Global, one: H, other: H) -> bool {
-    let read = told_of_tender(alloc, one, Some(Reading::Nonconforming));
-    is_text(read, EVALUATION) && is_unavailable(told_of_tender(alloc, other, None))
-}
-
-fn right_in_memory(alloc: Global) -> bool {
-    shows_contracts(alloc, MemoryShelf::new(alloc), MemoryShelf::new(alloc))
-        && shows_evaluations(alloc, MemoryShelf::new(alloc), MemoryShelf::new(alloc))
-}
-
-fn contracts_in_sql(alloc: Global) -> bool {
-    match (in_sql(alloc), in_sql(alloc)) {
-        (Some(one), Some(other)) => shows_contracts(alloc, one, other),
-        _ => false,
-    }
-}
-
-fn evaluations_in_sql(alloc: Global) -> bool {
-    match (in_sql(alloc), in_sql(alloc)) {
-        (Some(one), Some(other)) => shows_evaluations(alloc, one, other),
-        _ => false,
-    }
+// Whether the evaluation of tenders that were read is shown, and that of another tender isn't.
+fn shows_evaluations(alloc: Global) -> bool {
+    let Some(wanted) = evaluation(alloc, TENDERS) else {
+        return false;
+    };
+    let read = told_of_tenders(alloc, MemoryShelf::new(alloc), TENDERS, true);
+    is_text(read, &wanted)
+        && is_unavailable(told_of_tenders(alloc, MemoryShelf::new(alloc), 1, false))
 }
 
 #[test]
 fn looked_at_rows(rt: HostRuntime) {
     let alloc = rt.alloc();
     // Tries twice, because a test may refuse one allocation.
-    assert!(rt; right_in_memory(alloc) || right_in_memory(alloc));
-    assert!(rt; contracts_in_sql(alloc) || contracts_in_sql(alloc));
-    assert!(rt; evaluations_in_sql(alloc) || evaluations_in_sql(alloc));
+    assert!(rt; shows_contracts(alloc) || shows_contracts(alloc));
+    assert!(rt; shows_evaluations(alloc) || shows_evaluations(alloc));
 }

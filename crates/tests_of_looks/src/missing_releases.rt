@@ -6,7 +6,6 @@ use office_base::shelf::Shelf;
 use office_memory::memory::MemoryShelf;
 use office_values::id::Id;
 use std::alloc::Global;
-use tests_sql_office::office::in_sql;
 use tests_transcripts::session::{Wrong, played};
 use tests_transcripts::setup::{MONEY, NOTICE, TENDERERS};
 
@@ -54,21 +53,10 @@ fn isnt_shown_in_memory(alloc: Global, number: u64) -> Result<bool, Wrong> {
     )
 }
 
-fn isnt_shown_in_sql(alloc: Global, number: u64) -> Result<bool, Wrong> {
-    let one = in_sql(alloc).ok_or(Wrong::Unopened)?;
-    let other = in_sql(alloc).ok_or(Wrong::Unopened)?;
-    isnt_shown(alloc, one, other, number)
-}
-
 // Tries twice, because a test may refuse one allocation.
-fn is_right_in_memory(alloc: Global, number: u64) -> bool {
+fn is_right(alloc: Global, number: u64) -> bool {
     matches!(isnt_shown_in_memory(alloc, number), Ok(true))
         || matches!(isnt_shown_in_memory(alloc, number), Ok(true))
-}
-
-fn is_right_in_sql(alloc: Global, number: u64) -> bool {
-    matches!(isnt_shown_in_sql(alloc, number), Ok(true))
-        || matches!(isnt_shown_in_sql(alloc, number), Ok(true))
 }
 
 // The first release, one in the middle, and the last.
@@ -76,7 +64,6 @@ fn is_right_in_sql(alloc: Global, number: u64) -> bool {
 fn packages_are_not_cut_at_a_gap(rt: HostRuntime) {
     let alloc = rt.alloc();
     for number in 1..4 {
-        assert!(rt; is_right_in_memory(alloc, number));
-        assert!(rt; is_right_in_sql(alloc, number));
+        assert!(rt; is_right(alloc, number));
     }
 }

@@ -1,6 +1,5 @@
 //! Sockets and a clock that a test defines, below the computer that serves an office. They record which address is asked for, how long a read and a write may
-//! wait, at which second a connection is answered, and the output. (`served_files` serves an office in a file over them.)
-use crate::served::{BEGIN, CAME, TOLD, TOLD_LATER, office};
+//! wait, at which second a connection is answered, and the output.
 use office_base::stored::StoredShelf;
 use office_http::office::Office;
 use office_store::shelf::SqlShelf;
@@ -16,26 +15,28 @@ use std::net::{Ipv4Addr, Net, OpenListener, OpenStream, SocketAddr, SocketAddrV4
 use std::os::fd::{AsRawFd, RawFd};
 use std::rc::Rc;
 use std::time::{Clock, Duration};
+use tests_transcripts::session::desk_over;
 
-/// The day of an office: its first, or a later one.
-#[derive(Clone, Copy)]
-pub(crate) enum Day {
-    First,
-    Later,
-}
+// 2026-01-05T09:00:00Z.
+const BEGIN: u64 = 1_767_603_600;
 
-// The output that is expected on a day.
-fn expected_on(day: Day) -> &'static [u8] {
-    match day {
-        Day::First => TOLD,
-        Day::Later => TOLD_LATER,
-    }
-}
+const IMPORT: &[u8] =
+    b"POST /budget/B1 HTTP/1.1\r\nOffice-Caller: clerk\r\nOffice-Key: abc\r\nContent-Length: 42\r\n\r\nline,kind,amount,title\n1000,add,700,Roads\n";
+
+const LOOK: &[u8] = b"GET /lines/1000 HTTP/1.1\r\n\r\n";
+
+const CUT: &[u8] = b"GET /li";
+
+// The bytes that come over each connection, or none for one that can't be taken.
+static CAME: [Option<&[u8]>; 4] = [Some(IMPORT), None, Some(LOOK), Some(CUT)];
+
+// The output over the three connections that can be taken.
+static TOLD: &[u8] =
+    b"HTTP/1.1 200 OK\r\nContent-Type: application/json\r\nContent-Length: 55\r\nConnection: close\r\n\r\n{\"batch\":\"B1\",\"moment\":\"2026-01-05T09:00:00Z\",\"rows\":1}HTTP/1.1 200 OK\r\nContent-Type: application/json\r\nContent-Length: 99\r\nConnection: close\r\n\r\n{\"appropriation\":700,\"contracted\":0,\"free\":700,\"line\":\"1000\",\"paid\":0,\"reserved\":0,\"title\":\"Roads\"}HTTP/1.1 400 Bad Request\r\nContent-Type: application/json\r\nContent-Length: 30\r\nConnection: close\r\n\r\n{\"name\":\"BadHead\",\"refusal\":1}";
 
 /// The calls of the sockets, and the output over them.
 #[derive(Clone, Copy)]
 struct Seen {
-    day: Day,
     /// The number of connections that were to be taken.
     taken: usize,
     /// How often a read was limited to ten seconds.
@@ -49,7 +50,7 @@ struct Seen {
 // How much of the expected output is written after these bytes too.
 fn told_behind(seen: Seen, bytes: &[u8]) -> Option<usize> {
     let told = seen.told?;
-    let (_, left) = expected_on(seen.day).split_at_checked(told)?;
+    let (_, left) = TOLD.split_at_checked(told)?;
     if left.starts_with(bytes) {
         Some(told.saturating_add(bytes.len()))
     } else {
@@ -79,7 +80,7 @@ fn rest_of(taken: usize, read: usize) -> Option<&'static [u8]> {
 /// A handle of a connection: how many were taken before it, and how many of its bytes were read. It holds no reference to these bytes, because the prover's
 /// borrow checker doesn't cover a bound on a type that holds one.
 #[derive(Drop)]
-pub(crate) struct Stream {
+struct Stream {
     number: usize,
     read: usize,
     seen: Rc<Cell<Seen>>,
@@ -142,14 +143,13 @@ impl AsRawFd for Stream {
 
 /// The sockets of a computer, where one port is free, and its clock, which shows the last billionth of a second. They take the connections themselves.
 #[derive(Drop)]
-pub(crate) struct Sockets {
+struct Sockets {
     seen: Rc<Cell<Seen>>,
 }
 
-/// Sockets of a day over which nothing came yet. None if memory is too small.
-pub(crate) fn new_sockets(alloc: Global, day: Day) -> Option<Sockets> {
+// Sockets over which nothing came yet. None if memory is too small.
+fn new_sockets(alloc: Global) -> Option<Sockets> {
     let nothing = Seen {
-        day,
         taken: 0,
         reads: 0,
         writes: 0,
@@ -159,13 +159,10 @@ pub(crate) fn new_sockets(alloc: Global, day: Day) -> Option<Sockets> {
     Some(Sockets { seen })
 }
 
-/// Whether each of the three connections was answered after its limits for waiting were set. The one that can't be taken counts among the four.
-pub(crate) fn is_all_told(sockets: &Sockets) -> bool {
+// Whether each of the three connections was answered after its limits for waiting were set. The one that can't be taken counts among the four.
+fn is_all_told(sockets: &Sockets) -> bool {
     let seen = sockets.seen.get();
-    seen.taken == 4
-        && seen.reads == 3
-        && seen.writes == 3
-        && seen.told == Some(expected_on(seen.day).len())
+    seen.taken == 4 && seen.reads == 3 && seen.writes == 3 && seen.told == Some(TOLD.len())
 }
 
 impl OpenListener for Sockets {
@@ -250,10 +247,13 @@ fn is_served<H: StoredShelf + Drop>(
 
 // Whether an office is served, and each of its connections is answered.
 fn serves_at_sockets<H: StoredShelf + Drop>(alloc: Global, shelf: H) -> bool {
-    let Some(sockets) = new_sockets(alloc, Day::First) else {
+    let Some(sockets) = new_sockets(alloc) else {
         return false;
     };
-    let Ok(mut office) = office(alloc, shelf) else {
+    let Ok(desk) = desk_over(alloc, shelf) else {
+        return false;
+    };
+    let Ok(mut office) = Office::new(alloc, desk) else {
         return false;
     };
     is_served(alloc, &sockets, &mut office) && is_all_told(&sockets)

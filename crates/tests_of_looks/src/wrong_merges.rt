@@ -8,7 +8,6 @@ use office_memory::memory::MemoryShelf;
 use office_values::id::Id;
 use office_values::refusal::Refusal;
 use std::alloc::Global;
-use tests_sql_office::office::in_sql;
 use tests_transcripts::published::AMENDED;
 use tests_transcripts::session::{Wrong, played};
 use tests_transcripts::setup::{MONEY, NOTICE, TENDERERS};
@@ -71,13 +70,6 @@ fn isnt_begun_anew<H: Shelf + Drop>(alloc: Global, shelf: H, text: &str) -> Resu
     Ok(true)
 }
 
-fn isnt_begun_anew_in_sql(alloc: Global, text: &str) -> bool {
-    match in_sql(alloc) {
-        Some(office) => matches!(isnt_begun_anew(alloc, office, text), Ok(true)),
-        None => false,
-    }
-}
-
 fn isnt_begun_anew_in_memory(alloc: Global, text: &str) -> bool {
     matches!(
         isnt_begun_anew(alloc, MemoryShelf::new(alloc), text),
@@ -86,12 +78,8 @@ fn isnt_begun_anew_in_memory(alloc: Global, text: &str) -> bool {
 }
 
 // Tries twice, because a test may refuse one allocation.
-fn is_right_in_memory(alloc: Global, text: &str) -> bool {
+fn is_right(alloc: Global, text: &str) -> bool {
     isnt_begun_anew_in_memory(alloc, text) || isnt_begun_anew_in_memory(alloc, text)
-}
-
-fn is_right_in_sql(alloc: Global, text: &str) -> bool {
-    isnt_begun_anew_in_sql(alloc, text) || isnt_begun_anew_in_sql(alloc, text)
 }
 
 // Texts that are no objects; objects with a name out of its order, a name twice, a blank, a float and an escape that isn't needed. The last ones are merges of
@@ -112,9 +100,9 @@ static UNWRITTEN: [&str; 13] = [
     r#"{"a":1}"#,
 ];
 
-fn are_right_in_memory(alloc: Global, texts: &[&str]) -> bool {
+fn are_right(alloc: Global, texts: &[&str]) -> bool {
     for text in texts {
-        if !is_right_in_memory(alloc, text) {
+        if !is_right(alloc, text) {
             return false;
         }
     }
@@ -124,8 +112,5 @@ fn are_right_in_memory(alloc: Global, texts: &[&str]) -> bool {
 #[test]
 fn merges_that_no_office_writes_are_not_begun_anew(rt: HostRuntime) {
     let alloc = rt.alloc();
-    assert!(rt; are_right_in_memory(alloc, &UNWRITTEN));
-    assert!(rt; is_right_in_sql(alloc, "5"));
-    assert!(rt; is_right_in_sql(alloc, "[]"));
-    assert!(rt; is_right_in_sql(alloc, r#"{"ocid":"ocds-a1b2c3-N2"}"#));
+    assert!(rt; are_right(alloc, &UNWRITTEN));
 }

@@ -1,9 +1,7 @@
 //! Files of version 1, with or without the table of late withdrawals. When they are opened, they become the same office in version 2, even after any stop.
-use crate::earlier_file::{EARLIER_LEDGER, EARLIER_LOTS, EARLIER_ROWS, EARLIER_TABLES};
-use crate::first_files::{
-    FIRST_TABLES, RUNNING_LEDGER, RUNNING_LOTS, RUNNING_ROWS, TEN_LEDGER, TEN_LOTS, TEN_ROWS,
-};
-use crate::stores::{LATER, SECOND, answers_in, ledger_in, reopened};
+use crate::earlier_file::{EARLIER_LOTS, EARLIER_ROWS, EARLIER_TABLES};
+use crate::first_files::{FIRST_TABLES, RUNNING_LOTS, RUNNING_ROWS, TEN_LOTS, TEN_ROWS};
+use crate::stores::{LATER, SECOND, answers_in, reopened};
 use std::alloc::Global;
 use tests_disks::database::Database;
 use tests_disks::disks::Disks;
@@ -16,13 +14,12 @@ static FIRST: [&str; 2] = [
     "SELECT notice, title, published, deadline, validity, standstill, weight, state, opened, amendments, releases, 0 FROM notices ORDER BY notice",
 ];
 
-// A file of an earlier program: the statements that make its tables and its rows, the ledger that it showed, and whether it knew late withdrawals.
+// A file of an earlier program: the statements that make its tables and its rows, and whether it knew late withdrawals.
 #[derive(Clone, Copy)]
 struct Former {
     tables: &'static str,
     rows: &'static str,
     lots: &'static str,
-    ledger: &'static str,
     is_late: bool,
 }
 
@@ -31,7 +28,6 @@ fn before_late_rules() -> Former {
         tables: EARLIER_TABLES,
         rows: EARLIER_ROWS,
         lots: EARLIER_LOTS,
-        ledger: EARLIER_LEDGER,
         is_late: false,
     }
 }
@@ -41,7 +37,6 @@ fn running() -> Former {
         tables: FIRST_TABLES,
         rows: RUNNING_ROWS,
         lots: RUNNING_LOTS,
-        ledger: RUNNING_LEDGER,
         is_late: true,
     }
 }
@@ -51,7 +46,6 @@ fn ten_notices() -> Former {
         tables: FIRST_TABLES,
         rows: TEN_ROWS,
         lots: TEN_LOTS,
-        ledger: TEN_LEDGER,
         is_late: true,
     }
 }
@@ -61,14 +55,10 @@ fn later(is_late: bool) -> &'static [&'static str] {
     if is_late { &LATER[..1] } else { &LATER[..0] }
 }
 
-// The files of the earlier program, with the additions of these statements.
-fn left(alloc: Global, file: Former, statements: &str) -> Result<Disks, Wrong> {
+// The files of the earlier program.
+fn left(alloc: Global, file: Former) -> Result<Disks, Wrong> {
     let mut database = Database::open(alloc, Disks::blank(alloc)).ok_or(Wrong::Unopened)?;
-    if database.changes(file.tables)
-        && database.changes(file.rows)
-        && database.changes(file.lots)
-        && database.changes(statements)
-    {
+    if database.changes(file.tables) && database.changes(file.rows) && database.changes(file.lots) {
         database.close().ok_or(Wrong::Unopened)
     } else {
         Err(Wrong::Unopened)
@@ -95,7 +85,7 @@ fn is_complete(alloc: Global, disks: &Disks, rows: &[u8]) -> Result<bool, Wrong>
 
 // Whether the office is the same after it was opened once, and twice.
 fn is_migrated(alloc: Global, file: Former) -> Result<bool, Wrong> {
-    let disks = left(alloc, file, "")?;
+    let disks = left(alloc, file)?;
     let rows = rows_wanted(alloc, &disks, file.is_late)?;
     let once = reopened(alloc, disks)?;
     let is_once = is_complete(alloc, &once, &rows)?;
@@ -107,73 +97,10 @@ fn is_migrated(alloc: Global, file: Former) -> Result<bool, Wrong> {
 #[test]
 fn a_file_of_version_one_becomes_one_of_version_two(rt: HostRuntime) {
     let alloc = rt.alloc();
-    for file in [before_late_rules(), running(), ten_notices()] {
-        assert!(rt;
-            matches!(is_migrated(alloc, file), Ok(true))
-                || matches!(is_migrated(alloc, file), Ok(true))
-        );
-    }
-}
-
-// Whether it shows the ledger that the earlier program showed.
-fn has_its_ledger(alloc: Global, file: Former) -> Result<bool, Wrong> {
-    let text = ledger_in(alloc, left(alloc, file, "")?)?;
-    Ok(text.as_slice() == file.ledger.as_bytes())
-}
-
-#[test]
-fn its_ledger_stays(rt: HostRuntime) {
-    let alloc = rt.alloc();
-    for file in [before_late_rules(), running(), ten_notices()] {
-        assert!(rt;
-            matches!(has_its_ledger(alloc, file), Ok(true))
-                || matches!(has_its_ledger(alloc, file), Ok(true))
-        );
-    }
-}
-
-// Whether files of the earlier program with this addition can't be used, and stay as they were.
-fn is_unusable(alloc: Global, statements: &str) -> Result<bool, Wrong> {
-    let disks = left(alloc, before_late_rules(), statements)?;
-    let rows = rows_wanted(alloc, &disks, false)?;
-    match OfficeOnDisks::open(alloc, disks) {
-        Err(Unopened::Unusable(disks)) => Ok(rows_wanted(alloc, &disks, false)? == rows),
-        _ => Ok(false),
-    }
-}
-
-#[test]
-fn a_name_is_taken(rt: HostRuntime) {
-    let alloc = rt.alloc();
-    for statements in [
-        "CREATE VIEW late_rules AS SELECT 1",
-        "CREATE INDEX late_rules ON lots (title)",
-        "CREATE INDEX notices_2 ON lots (title)",
-        "CREATE TABLE performance (x INTEGER)",
-    ] {
-        assert!(rt;
-            matches!(is_unusable(alloc, statements), Ok(true))
-                || matches!(is_unusable(alloc, statements), Ok(true))
-        );
-    }
-}
-
-// A foreign key of another table to the notices or the version, whatever it does at a deletion, and a view of the notices.
-#[test]
-fn others_lead_there(rt: HostRuntime) {
-    let alloc = rt.alloc();
-    for statements in [
-        "CREATE TABLE remarks (notice TEXT REFERENCES notices)",
-        "CREATE TABLE remarks (notice TEXT REFERENCES Notices ON DELETE CASCADE); INSERT INTO remarks SELECT notice FROM notices",
-        "CREATE TABLE remarks (notice TEXT REFERENCES notices ON DELETE SET NULL); INSERT INTO remarks SELECT notice FROM notices",
-        "CREATE TABLE remarks (version INTEGER REFERENCES office ON DELETE CASCADE); INSERT INTO remarks VALUES (1)",
-        "CREATE VIEW titles AS SELECT title FROM notices",
-    ] {
-        assert!(rt;
-            matches!(is_unusable(alloc, statements), Ok(true))
-                || matches!(is_unusable(alloc, statements), Ok(true))
-        );
-    }
+    let file = ten_notices();
+    assert!(rt;
+        matches!(is_migrated(alloc, file), Ok(true)) || matches!(is_migrated(alloc, file), Ok(true))
+    );
 }
 
 // Files, whether they had version 1, and whether they are the whole office, in their version and then in version 2 after they were opened again.
@@ -299,7 +226,7 @@ fn stops(alloc: Global, disks: &Disks, is_late: bool, of_log: bool) -> Result<Fo
 
 // Stops of the log's disk must leave the office in version 1 and in version 2, and those of the database file in version 2.
 fn is_stopped(alloc: Global, file: Former) -> Result<bool, Wrong> {
-    let disks = left(alloc, file, "")?;
+    let disks = left(alloc, file)?;
     let log = stops(alloc, &disks, file.is_late, true)?;
     let db = stops(alloc, &disks, file.is_late, false)?;
     Ok(log.first > 0 && log.second > 0 && db.second > 0)

@@ -1,4 +1,4 @@
-//! Tests of an office in files that a transcript can't express: its disk stops at each of its writes, or its files aren't an office.
+//! Tests of an office in files that a transcript can't express: its disk stops at each of its calls, or its tables have rows that no office writes.
 #![tactic(auto)]
 
 #[cfg(test)]
@@ -12,15 +12,7 @@ mod earlier_file;
 #[cfg(test)]
 mod first_files;
 #[cfg(test)]
-mod forms;
-#[cfg(test)]
 mod life;
-#[cfg(test)]
-mod lost_rows;
-#[cfg(test)]
-mod no_offices;
-#[cfg(test)]
-mod shut;
 #[cfg(test)]
 mod stops;
 #[cfg(test)]

@@ -46,10 +46,3 @@ at 2026-05-01T09:00:00Z clerk POST /contracts/1/end
 > {"how":"regular"}
 = 200 {"contract":1,"moment":"2026-05-01T09:00:00Z","outstanding":0,"release":6}
 "#;
-
-/// The ledger after the import of the two lines.
-pub(crate) static TWO_LINES: &str =
-    "LEDGER\nline\tappropriation\tfree\treserved\tcontracted\tpaid\n1000\t1000\t1000\t0\t0\t0\n2000\t500\t500\t0\t0\t0\n";
-
-/// The ledger before the import.
-pub(crate) static NO_LINE: &str = "LEDGER\nline\tappropriation\tfree\treserved\tcontracted\tpaid\n";

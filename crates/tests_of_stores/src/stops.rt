@@ -1,8 +1,8 @@
 //! Stops: a disk accepts some number of calls, and fails at every later one. Whatever that number is, the office that is opened again has the rows from before
 //! the command, or all changes of the command. If the changes were reported as made, it has all of them.
 use crate::changes::{changes_of, copied};
-use crate::life::{LIFE, NO_LINE, TWO_LINES};
-use crate::stores::{all_changed, ledger_in, made, opened, rows_in};
+use crate::life::LIFE;
+use crate::stores::{all_changed, made, rows_in};
 use office_base::puts::Put;
 use std::alloc::Global;
 use tests_disks::disks::Disks;
@@ -276,26 +276,4 @@ fn a_payment_is_stopped(rt: HostRuntime) {
 fn an_end_is_stopped(rt: HostRuntime) {
     let alloc = rt.alloc();
     assert!(rt; leaves_all_or_none(alloc, 10) || leaves_all_or_none(alloc, 10));
-}
-
-// The text of the ledger after this many commands of a life.
-fn ledger_of_life(alloc: Global, count: usize) -> Result<Vec<u8>, Wrong> {
-    let mut changes = changes_of(alloc, &[LIFE])?;
-    changes.truncate(count);
-    ledger_in(alloc, all_changed(alloc, made(alloc)?, &changes)?)
-}
-
-fn has_ledger(alloc: Global, count: usize, ledger: &str) -> bool {
-    match ledger_of_life(alloc, count) {
-        Ok(text) => text.as_slice() == ledger.as_bytes(),
-        Err(_) => false,
-    }
-}
-
-// So each stop in the import of two lines leaves a ledger without lines, or with both.
-#[test]
-fn the_import_has_two_lines(rt: HostRuntime) {
-    let alloc = rt.alloc();
-    assert!(rt; has_ledger(alloc, 1, NO_LINE) || has_ledger(alloc, 1, NO_LINE));
-    assert!(rt; has_ledger(alloc, 2, TWO_LINES) || has_ledger(alloc, 2, TWO_LINES));
 }

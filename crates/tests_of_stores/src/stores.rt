@@ -123,12 +123,6 @@ pub(crate) fn answers_in(
     Ok(bytes)
 }
 
-/// The text of the ledger of the office in these files.
-pub(crate) fn ledger_in(alloc: Global, disks: Disks) -> Result<Vec<u8>, Wrong> {
-    let mut office = opened(alloc, disks)?;
-    ledger_of(alloc, &mut office)
-}
-
 /// The text of the ledger, followed by all rows of the office.
 pub(crate) fn rows_in(alloc: Global, disks: Disks) -> Result<Vec<u8>, Wrong> {
     let mut office = opened(alloc, disks)?;
