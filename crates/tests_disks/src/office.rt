@@ -58,6 +58,14 @@ impl OfficeOnDisks {
         self.shelf.ledger().ok()
     }
 
+    /// Whether its store was closed for good. None if there is no memory to ask.
+    pub fn is_shut(&mut self) -> Option<bool> {
+        match self.shelf.is_shut() {
+            Ok(shut) => Some(shut),
+            Err(_) => None,
+        }
+    }
+
     fn into_shelf(self) -> SqlShelf<FileStore<Fuse<Memory>>> {
         let OfficeOnDisks { shelf } = self;
         shelf

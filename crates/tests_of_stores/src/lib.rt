@@ -14,6 +14,8 @@ mod first_files;
 #[cfg(test)]
 mod life;
 #[cfg(test)]
+mod shut;
+#[cfg(test)]
 mod stops;
 #[cfg(test)]
 mod stores;
