@@ -14,8 +14,7 @@ use std::alloc::{AllocError, Global};
 use std::collections::BTreeMap;
 use std::marker::Model;
 
-/// The most answers that are remembered of a table of which a command names many rows: a budget file has up to 500 lines, and an opening has as many tenderers.
-/// Such a row takes up to two kilobytes.
+/// The most answers that are remembered of the lines or of the tenderers. A budget file has up to 500 lines. Such a row takes up to two kilobytes.
 pub const MANY: usize = 1_000;
 
 /// The most that are remembered of any other table. Such a row takes up to 64 kilobytes, which a body may have. So all six tables take up to 7 MB.

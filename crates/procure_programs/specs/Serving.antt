@@ -54,8 +54,8 @@ abbrev pub WasServedAt : {S X T R W : Type 0} → (X → SocketAddrV4 → Option
 WasServedAt binds N M store network bound port count settings old new result =
     (now : Settings) × ServesAt binds N M store network bound port count (record { shelf = old; settings = settings }) (record { shelf = new; settings = now }) result
 
--- An office in a store was served as `WasServedAt` says, in a store around it that remembers what it was asked for. What was done before changed nothing in the
--- store inside (`around`). So at first that one held each office that the store inside held (`holds`).
+-- An office in a store was served as `WasServedAt` says, in a store around it that remembers its answers. Before that, nothing changed in the store inside
+-- (`around`). So at first the store around it held each office that the store inside held (`holds`).
 pub record WasServedRemembering {S X T R W : Type 0} (binds : X → SocketAddrV4 → Option T → X → Type 0) (N : Hosting T R W) (M : Meaning S) (store : Standing S) (network bound : X) (port : ℕ) (count : ℕ) (settings : Settings) (old new : S) (result : Result (Unit {0}) ProgramFault) : Type 0 where
   pub first : RememberingShelf S
   pub last : RememberingShelf S

@@ -1,5 +1,5 @@
-//! No command makes a store forget the sums of a budget line: the next query of the line reads at most the line's row, if the command changed lines, and one that
-//! is repeated reads nothing. And how many calls a budget file, a publication and a payment make, compared with a store that remembers nothing.
+//! No command makes a store forget the sums of a budget line. The next query of the line reads the line's row alone, if the command changed lines, or nothing. One
+//! that is repeated reads nothing. And how many calls commands make, compared with a store that remembers nothing.
 use crate::broken_stores::{Sums, breaks};
 use crate::life::{
     AWARDED, AWARDED_AGAIN, AWARDED_AGAIN_LINE, AWARDED_LINE, CANCELLED, CANCELLED_LINE, ENDED,

@@ -1,5 +1,5 @@
-//! Tests of queries that a transcript can't express. There are merges that aren't stored or that another program wrote, releases that are missing or can't be
-//! read, rows to which no commands lead, the ledger's rows one at a time, and sockets of a test's own.
+//! Tests of queries that a transcript can't express. There are merges that aren't stored or that another program wrote, and releases that are missing or can't be
+//! read. There are rows to which no commands lead, the ledger's rows one at a time, and sockets of a test's own.
 #![tactic(auto)]
 
 #[cfg(test)]
