@@ -65,7 +65,9 @@ def client(port, sent, patience=LISTENS):
     stream = connect(port, patience)
     stream.settimeout(3 * PATIENCE)
     stream.sendall(sent)
-    stream.shutdown(socket.SHUT_WR)
+    # (The office may have refused these bytes and closed already.)
+    with contextlib.suppress(OSError):
+        stream.shutdown(socket.SHUT_WR)
     return stream
 
 
