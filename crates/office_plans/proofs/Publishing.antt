@@ -37,14 +37,21 @@ module _ {R : Type 0} {asking : Asking} {command : Command} {rows_of : Tables �
       → effect office_readings (x s) ≡ puts (rows_of s) (time_of (x s)) → made ≡ effect office_readings (x s)
   puts_on puts made is s are own = is ∙ on_rows puts s are ∙ sym own
 
-  -- No row is missing to the command that isn't to these rows.
-  pub whole_on : (lacks : R → Bool) → lacks rows ≡ false → (s : Tables) → rows ≡ rows_of s → is_lacking (x s) ≡ lacks (rows_of s) → is_lacking (x s) ≡ false
-  whole_on lacks whole s are own = own ∙ sym (ap lacks are) ∙ whole
+-- A command that isn't refused passes its own tests.
+pub passes_own : (x : Given) → refusal_of x ≡ None → first_of (command_tests x) ≡ None
+passes_own x none = by (may_give x.caller x.command) none
+  where
+    by : (b : Bool) → cond (not b) (Some Forbidden) (first_of (command_tests x)) ≡ None → first_of (command_tests x) ≡ None
+    by true is = is
+    by false is = let no : Some Forbidden ≡ None = is in absurd cc
 
-  -- If the decision is a refusal, then so is the plan.
-  pub not_planned : {S : Type 0} (M : Meaning S) (publisher : Publisher) (a b : S) (answer : Option Refusal) (why : Refusal) → Looks M a b (λ s. rows ≡ rows_of s)
-      → may_give asking.caller.now command ≡ true → answer ≡ first_of (tests rows t) → answer ≡ Some why → Looks M a b (λ s. IsPlanned publisher (x s) (Err why))
-  not_planned M publisher a b answer why looked may is refused = (looked.0, λ honest s held. inl (refused_on answer may is s (looked.1 honest s held) ∙ refused))
+-- A fact that needs no look-up.
+pub no_look : {S : Type 0} (M : Meaning S) (a : S) (All : Tables → Type 0) → ((s : Tables) → All s) → Looks M a a All
+no_look M a All all = (record { before = λ h. h; same = λ h t held. held; stop = λ h u left. left; sound = λ h was. was }, λ honest s held. all s)
+
+-- A fact that follows from the one that a call reports.
+pub one_look : {S : Type 0} (M : Meaning S) (a b : S) (P All : Tables → Type 0) → Looks M a b P → ((s : Tables) → P s → All s) → Looks M a b All
+one_look M a b P All first all = (first.0, λ honest s held. all s (first.1 honest s held))
 
 -- If two calls only look things up, one after the other, then the facts that both report hold at once.
 pub two_looks : {S : Type 0} (M : Meaning S) → LooksFollow M → (a b c : S) (P Q All : Tables → Type 0) → Looks M a b P → Looks M b c Q
@@ -65,11 +72,3 @@ pub three_looks : {S : Type 0} (M : Meaning S) → LooksFollow M → (a b c d : 
     → ((s : Tables) → P s → Q s → R s → All s) → Looks M a d All
 three_looks M follow a b c d P Q R All first second third all =
     two_looks M follow a c d (λ s. P s × Q s) R All (two_looks M follow a b c P Q (λ s. P s × Q s) first second (λ s p q. (p, q))) third (λ s both r. all s both.0 both.1 r)
-
--- The facts that four such calls report hold at once.
-pub four_looks : {S : Type 0} (M : Meaning S) → LooksFollow M → (a b c d e : S) (P Q R T All : Tables → Type 0) → Looks M a b P → Looks M b c Q → Looks M c d R
-    → Looks M d e T → ((s : Tables) → P s → Q s → R s → T s → All s) → Looks M a e All
-four_looks M follow a b c d e P Q R T All first second third fourth all =
-    two_looks M follow a d e (λ s. P s × Q s × R s) T All
-    (three_looks M follow a b c d P Q R (λ s. P s × Q s × R s) first second third (λ s p q r. (p, q, r))) fourth
-    (λ s three t. all s three.0 three.1 three.2 t)

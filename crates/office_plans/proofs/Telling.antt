@@ -1,6 +1,5 @@
 -- A refused command gets its refusal, unless a look-up failed.
 use Rattle.office_plans.proofs.Names.{◌≡◌, ◌<◌, ◌⊎◌, ◌+◌, ◌-◌, ◌^◌, ℕ, Bool, true, List, Option, Some, None, Result, Err, max, ◌∙◌, ap, arith, inl, inr, sym, Refusal, Command, HasRisen, one_fault_more, first_of, CountsFaults, Looks, Meaning, Tables, ClockRow, ShelfFault, may_give, refusal_of, given_by, TellsRefusal, IsPlanned, Publisher, Asking}
-use Rattle.office_plans.proofs.Publishing.{IsTested, refused_on}
 
 -- The count after one more fault is higher, or it was already the highest.
 has_risen : (old new : ℕ) → new ≡ one_fault_more old → HasRisen old new
@@ -10,24 +9,6 @@ has_risen old new counted = grind (arith, counted)
 pub fault_told : {S T V : Type 0} (M : Meaning S) (a b : S) (asking : Asking) (command : Command) (fault : ShelfFault) (result : Result T Refusal)
     → CountsFaults {T = V} M a b (Err fault) → TellsRefusal M a b (λ s. given_by asking s command) result
 fault_told M a b asking command fault result counts honest s held why refused small = inr (has_risen _ _ counts.counted)
-
--- Rows that were looked up, the moment by their clock, and the answer of the decision on them.
-module _ {R : Type 0} {asking : Asking} {command : Command} {rows_of : Tables → R} {clock_in : R → ClockRow} {tests : R → ℕ → List (Bool × Refusal)}
-    (ruled : IsTested asking command rows_of clock_in tests) (rows : R) (t : ℕ) (moment : t ≡ max asking.moment (clock_in rows).moment)
-    {S T : Type 0} (M : Meaning S) (a b : S) (looked : Looks M a b (λ s. rows ≡ rows_of s)) (may : may_give asking.caller.now command ≡ true)
-    (answer : Option Refusal) (is : answer ≡ first_of (tests rows t)) where
-  -- If the decision refuses the command, then the result is this refusal.
-  pub refusal_told : (why : Refusal) → answer ≡ Some why → TellsRefusal {T = T} M a b (λ s. given_by asking s command) (Err why)
-  refusal_told why refuses honest s held own refused small =
-      let same : Some why ≡ Some own = sym refuses ∙ sym (refused_on ruled rows t moment answer may is s (looked.1 honest s held)) ∙ refused in
-      let are : why ≡ own = cc in
-      inl (λ i. Err (are i))
-
-  -- If the decision refuses nothing, then the command has no refusal, whatever the program looks up afterwards.
-  pub none_to_tell : (c : S) (result : Result T Refusal) → (M.honest c → M.honest b) → answer ≡ None → TellsRefusal M a c (λ s. given_by asking s command) result
-  none_to_tell c result before allows honest s held why refused small =
-      let differ : None ≡ Some why = sym allows ∙ sym (refused_on ruled rows t moment answer may is s (looked.1 (before honest) s held)) ∙ refused in
-      absurd (cc)
 
 -- A look-up that failed after others is counted.
 pub later_told : {S T V : Type 0} (M : Meaning S) (a b c : S) (asking : Asking) (command : Command) (fault : ShelfFault) (result : Result T Refusal)

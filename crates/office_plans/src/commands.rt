@@ -6,24 +6,25 @@ ghost use Rattle.office_base.specs.Shelves.{Looks};
 ghost use Rattle.office_plans.specs.Asking.{given_by};
 ghost use Rattle.office_plans.specs.Published.{IsPlanned, TellsRefusal};
 
-pub mod amend_contract;
-pub mod amend_notice;
-pub mod award;
-pub mod cancel;
-pub mod end;
-pub mod examine;
-pub mod fail;
-pub mod import;
-pub mod modify;
-pub mod open;
-pub mod pay;
-pub mod present;
-pub mod publish;
-pub mod register;
-pub mod sign;
-pub mod withdraw;
+mod amend_contract;
+mod amend_notice;
+mod award;
+mod cancel;
+mod end;
+mod examine;
+mod fail;
+mod import;
+mod modify;
+mod open;
+mod pay;
+mod present;
+mod publish;
+mod register;
+mod sign;
+mod withdraw;
 
 use crate::planned::Planned;
+use crate::planning::Planning;
 use office_base::shelf::Lookups;
 use office_commands::commands::Command;
 use office_values::refusal::Refusal;
@@ -46,41 +47,73 @@ pub fn plan_command<H: Lookups>(
 {
     match command {
         Command::Import { batch, rows } => import::plan(alloc, shelf, asking, batch, rows),
+        Command::Publish { notice, content } => publish::plan(
+            alloc, shelf, publisher, asking, notice, content,
+        ),
         Command::Register {
             tenderer,
             name,
             address,
             key,
-        } => register::plan(alloc, shelf, asking, tenderer, name, address, key),
-        Command::Publish { notice, content } => publish::plan(
-            alloc, shelf, publisher, asking, notice, content,
-        ),
+        } => register::RegisterCommand {
+            tenderer,
+            name,
+            address,
+            key,
+        }
+        .plan(alloc, shelf, publisher, asking),
         Command::AmendNotice {
             notice,
             deadline,
             rationale,
-        } => amend_notice::plan(alloc, shelf, publisher, asking, notice, deadline, rationale),
-        Command::Cancel { notice, rationale } => cancel::plan(
-            alloc, shelf, publisher, asking, notice, rationale,
+        } => amend_notice::AmendNoticeCommand {
+            notice,
+            deadline,
+            rationale,
+        }
+        .plan(alloc, shelf, publisher, asking),
+        Command::Cancel { notice, rationale } => cancel::CancelCommand { notice, rationale }.plan(
+            alloc, shelf, publisher, asking,
         ),
-        Command::Open { notice } => open::plan(alloc, shelf, publisher, asking, notice),
+        Command::Open { notice } => open::OpenCommand { notice }.plan(
+            alloc, shelf, publisher, asking,
+        ),
         Command::Present {
             notice,
             lot,
             security,
             sealed,
-        } => present::plan(alloc, shelf, asking, notice, lot, security, sealed),
-        Command::Modify { receipt, sealed } => modify::plan(alloc, shelf, asking, receipt, sealed),
-        Command::Withdraw { receipt } => withdraw::plan(alloc, shelf, asking, receipt),
+        } => present::PresentCommand {
+            notice,
+            lot,
+            security,
+            sealed,
+        }
+        .plan(alloc, shelf, publisher, asking),
+        Command::Modify { receipt, sealed } => modify::ModifyCommand { receipt, sealed }.plan(
+            alloc, shelf, publisher, asking,
+        ),
+        Command::Withdraw { receipt } => withdraw::WithdrawCommand { receipt }.plan(
+            alloc, shelf, publisher, asking,
+        ),
         Command::Examine {
             receipt,
             responsive,
             quality,
-        } => examine::plan(alloc, shelf, asking, receipt, responsive, quality),
-        Command::Award { notice, lot } => award::plan(alloc, shelf, publisher, asking, notice, lot),
-        Command::Fail { award } => fail::plan(alloc, shelf, publisher, asking, award),
-        Command::Sign { award, security } => sign::plan(
-            alloc, shelf, publisher, asking, award, security,
+        } => examine::ExamineCommand {
+            receipt,
+            responsive,
+            quality,
+        }
+        .plan(alloc, shelf, publisher, asking),
+        Command::Award { notice, lot } => award::AwardCommand { notice, lot }.plan(
+            alloc, shelf, publisher, asking,
+        ),
+        Command::Fail { award } => fail::FailCommand { award }.plan(
+            alloc, shelf, publisher, asking,
+        ),
+        Command::Sign { award, security } => sign::SignCommand { award, security }.plan(
+            alloc, shelf, publisher, asking,
         ),
         Command::AmendContract {
             contract,
@@ -88,14 +121,26 @@ pub fn plan_command<H: Lookups>(
             kind,
             amount,
             rationale,
-        } => amend_contract::plan(
-            alloc, shelf, publisher, asking, contract, entry, kind, amount, rationale,
-        ),
+        } => amend_contract::AmendContractCommand {
+            contract,
+            entry,
+            kind,
+            amount,
+            rationale,
+        }
+        .plan(alloc, shelf, publisher, asking),
         Command::Pay {
             contract,
             entry,
             amount,
-        } => pay::plan(alloc, shelf, publisher, asking, contract, entry, amount),
-        Command::End { contract, how } => end::plan(alloc, shelf, publisher, asking, contract, how),
+        } => pay::PayCommand {
+            contract,
+            entry,
+            amount,
+        }
+        .plan(alloc, shelf, publisher, asking),
+        Command::End { contract, how } => end::EndCommand { contract, how }.plan(
+            alloc, shelf, publisher, asking,
+        ),
     }
 }

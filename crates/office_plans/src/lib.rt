@@ -13,6 +13,7 @@ mod orphans;
 mod outstanding;
 mod parents;
 pub mod planned;
+mod planning;
 mod published;
 pub mod release_numbers;
 mod replies;

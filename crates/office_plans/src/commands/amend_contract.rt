@@ -1,15 +1,12 @@
 //! The plan for a change of a contract: its reply, its release and its changes.
-ghost use Rattle.std.specs.Prelude.{◌≡◌, ℕ, List, true, IfErr, IfOk, None, Some};
-ghost use Rattle.award_core.specs.Rules.AmendContract.{amend_contract_rows};
-ghost use Rattle.office_commands.specs.Rights.{may};
-ghost use Rattle.office_commands.specs.declared.command.CommandKind.TheVariants as kinds;
+ghost use Rattle.std.specs.Prelude.{◌≡◌, ℕ, List, IfErr, IfOk, None, Some};
+ghost use Rattle.award_core.specs.Rules.AmendContract.{amend_contract_rows, amend_contract_tests};
 ghost use Rattle.office_commands.specs.declared.commands.Command.TheVariants.{AmendContract};
-ghost use Rattle.office_base.specs.Shelves.{Looks, LooksUp};
 ghost use Rattle.office_base.specs.Tables.{Tables, contract_at};
 ghost use Rattle.office_machine.specs.Replies.{release_of_contract};
 ghost use Rattle.office_machine.specs.Machine.{refusal_of};
 ghost use Rattle.office_plans.specs.Asking.{given_by};
-ghost use Rattle.office_plans.specs.Published.{IsPlanned, TellsRefusal, accepted_reply};
+ghost use Rattle.office_plans.specs.Published.{accepted_reply};
 ghost use Rattle.office_plans.specs.Released.{IsReleased};
 ghost use Rattle.office_plans.specs.Replies.{reply_text};
 ghost use Rattle.office_values.specs.declared.refusal.Refusal.TheVariants.{Unavailable};
@@ -17,6 +14,7 @@ ghost use Rattle.office_values.specs.declared.refusal.Refusal.TheVariants.{Unava
 use crate::outstanding::left_by_change;
 use crate::parents::{line_of_lot, lot_of_contract, notice_of_contract};
 use crate::planned::Planned;
+use crate::planning::Planning;
 use crate::published::{Released, make_release, published};
 use crate::replies::contract_text;
 use award_core::amend_contract::{AmendContractRows, places, puts, refusal};
@@ -39,23 +37,14 @@ use office_values::text::TextLine;
 use std::alloc::Global;
 use tender_core::asking::Asking;
 
-// Loads the rows by which the command is decided.
-fn load<H: Lookups>(shelf: &mut H, contract: AskedNumber) -> Result<AmendContractRows, ShelfFault>
-    ensures { LooksUp H.meaning shelf.old shelf.new result (λ s rows. rows ≡ amend_contract_rows s contract) }
-{
-    let clock = shelf.get_clock()?;
-    let row = shelf.get_contract(contract)?;
-    let notice = notice_of_contract(shelf, &row)?;
-    let lot = lot_of_contract(shelf, &row)?;
-    let line = line_of_lot(shelf, &lot)?;
-    let entries = Rows::from_vec(shelf.list_entries_of_contract(contract)?);
-    Ok(AmendContractRows {
-        contract: row,
-        entries,
-        notice,
-        line,
-        clock,
-    })
+/// A change of a contract.
+#[derive(Drop)]
+pub(crate) struct AmendContractCommand {
+    pub(crate) contract: AskedNumber,
+    pub(crate) entry: Id,
+    pub(crate) kind: ChangeKind,
+    pub(crate) amount: EntryAmount,
+    pub(crate) rationale: TextLine,
 }
 
 // The text of the reply to an accepted change of a contract.
@@ -114,35 +103,83 @@ fn release(
     make_release(alloc, publisher, contract.notice, &rows.notice, t, &event)
 }
 
-/// Plans a change of a contract. A refusal needs no memory except for the rows.
-pub fn plan<H: Lookups>(
-    alloc: Global,
-    shelf: &mut H,
-    publisher: &Publisher,
-    asking: &Asking,
-    contract: AskedNumber,
-    entry: Id,
-    kind: ChangeKind,
-    amount: EntryAmount,
-    rationale: TextLine,
-) -> Result<Planned, Refusal>
-    requires { may asking.now.caller.now kinds.AmendContract ≡ true }
-    ensures looks { Looks H.meaning shelf.old shelf.new (λ s.
-        IsPlanned publisher.now (given_by asking.now s (AmendContract contract entry kind amount rationale)) result) }
-    ensures tells { TellsRefusal H.meaning shelf.old shelf.new (λ s. given_by asking.now s (AmendContract contract entry kind amount rationale)) result }
-{
-    looks_follow::<H>();
-    let rows = load(shelf, contract)?;
-    let t = asking.time(&rows.clock);
-    if let Some(why) = refusal(&rows, &entry, kind, amount) {
-        return Err(why);
+impl Planning for AmendContractCommand {
+    type Rows = AmendContractRows;
+
+    ghost command = { λ c. AmendContract c.contract c.entry c.kind c.amount c.rationale };
+
+    ghost rows_of = { λ c asking s. amend_contract_rows s c.contract };
+
+    ghost tests = { λ c asking rows. amend_contract_tests rows c.entry c.kind c.amount };
+
+    fn load<H: Lookups>(
+        &self,
+        _alloc: Global,
+        shelf: &mut H,
+        _asking: &Asking,
+    ) -> Result<AmendContractRows, ShelfFault> {
+        let clock = shelf.get_clock()?;
+        let row = shelf.get_contract(self.contract)?;
+        let notice = notice_of_contract(shelf, &row)?;
+        let lot = lot_of_contract(shelf, &row)?;
+        let line = line_of_lot(shelf, &lot)?;
+        let entries = Rows::from_vec(shelf.list_entries_of_contract(self.contract)?);
+        Ok(AmendContractRows {
+            contract: row,
+            entries,
+            notice,
+            line,
+            clock,
+        })
     }
-    let row = rows.contract.as_ref().unwrap();
-    let release = release(
-        alloc, publisher, asking, &rows, row, entry, kind, amount, &rationale,
-    )?;
-    let text = reply(alloc, asking, &rows, contract, kind, amount, release.seq)?;
-    let places = places(alloc)?;
-    let puts = puts(places, t, rows, entry, kind, amount, rationale)?;
-    published(alloc, shelf, publisher, puts, text, release)
+
+    fn refusal(&self, _asking: &Asking, rows: &AmendContractRows) -> Option<Refusal> {
+        refusal(rows, &self.entry, self.kind, self.amount)
+    }
+
+    fn ruled(&self, _asking: &Asking) {}
+
+    fn accepted<H: Lookups>(
+        self,
+        alloc: Global,
+        shelf: &mut H,
+        publisher: &Publisher,
+        asking: &Asking,
+        rows: AmendContractRows,
+    ) -> Result<Planned, Refusal> {
+        looks_follow::<H>();
+        let t = asking.time(&rows.clock);
+        let row = rows.contract.as_ref().unwrap();
+        let release = release(
+            alloc,
+            publisher,
+            asking,
+            &rows,
+            row,
+            self.entry,
+            self.kind,
+            self.amount,
+            &self.rationale,
+        )?;
+        let text = reply(
+            alloc,
+            asking,
+            &rows,
+            self.contract,
+            self.kind,
+            self.amount,
+            release.seq,
+        )?;
+        let places = places(alloc)?;
+        let puts = puts(
+            places,
+            t,
+            rows,
+            self.entry,
+            self.kind,
+            self.amount,
+            self.rationale,
+        )?;
+        published(alloc, shelf, publisher, puts, text, release)
+    }
 }

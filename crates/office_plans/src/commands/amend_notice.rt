@@ -1,18 +1,15 @@
 //! The plan for an amendment of a notice: its reply, its release and its changes.
-ghost use Rattle.std.specs.Prelude.{◌≡◌, true, IfErr, IfOk};
-ghost use Rattle.office_commands.specs.Rights.{may};
-ghost use Rattle.office_commands.specs.declared.command.CommandKind.TheVariants as kinds;
+ghost use Rattle.std.specs.Prelude.{◌≡◌, IfErr, IfOk, max};
 ghost use Rattle.office_commands.specs.declared.commands.Command.TheVariants.{AmendNotice};
-ghost use Rattle.office_base.specs.Shelves.{Looks, LooksUp};
 ghost use Rattle.office_base.specs.Tables.{Tables};
 ghost use Rattle.office_plans.specs.Asking.{given_by};
-ghost use Rattle.office_plans.specs.Published.{IsPlanned, TellsRefusal};
 ghost use Rattle.office_plans.specs.Released.{IsReleased};
 ghost use Rattle.office_publications.specs.NoticeEvents.{deadline_in};
 ghost use Rattle.office_values.specs.declared.refusal.Refusal.TheVariants.{Unavailable};
-ghost use Rattle.tender_core.specs.Rules.AmendNotice.{amend_notice_rows};
+ghost use Rattle.tender_core.specs.Rules.AmendNotice.{amend_notice_rows, amend_notice_tests};
 
 use crate::planned::Planned;
+use crate::planning::Planning;
 use crate::published::{Released, make_release, published};
 use crate::replies::notice_reply;
 use ocds_release::borrowed::BorrowedLine;
@@ -29,14 +26,12 @@ use std::alloc::Global;
 use tender_core::amend_notice::{AmendNoticeRows, puts, refusal};
 use tender_core::asking::Asking;
 
-// Loads the rows by which the command is decided.
-fn load<H: Lookups>(shelf: &mut H, notice: &Id) -> Result<AmendNoticeRows, ShelfFault>
-    ensures { LooksUp H.meaning shelf.old shelf.new result (λ s rows. rows ≡ amend_notice_rows s notice.now) }
-{
-    Ok(AmendNoticeRows {
-        notice: shelf.get_notice(notice)?,
-        clock: shelf.get_clock()?,
-    })
+/// An amendment of a notice. Only the release has the rationale.
+#[derive(Drop)]
+pub(crate) struct AmendNoticeCommand {
+    pub(crate) notice: Id,
+    pub(crate) deadline: Moment,
+    pub(crate) rationale: TextLine,
 }
 
 // The deadline before the amendment, or the first moment if the notice doesn't exist.
@@ -75,30 +70,54 @@ fn release(
     make_release(alloc, publisher, notice, &rows.notice, t, &event)
 }
 
-/// Plans an amendment of a notice. A refusal needs no memory except for the rows. Only the release has the rationale.
-pub fn plan<H: Lookups>(
-    alloc: Global,
-    shelf: &mut H,
-    publisher: &Publisher,
-    asking: &Asking,
-    notice: Id,
-    deadline: Moment,
-    rationale: TextLine,
-) -> Result<Planned, Refusal>
-    requires { may asking.now.caller.now kinds.AmendNotice ≡ true }
-    ensures looks { Looks H.meaning shelf.old shelf.new (λ s. IsPlanned publisher.now (given_by asking.now s (AmendNotice notice deadline rationale)) result) }
-    ensures tells { TellsRefusal H.meaning shelf.old shelf.new (λ s. given_by asking.now s (AmendNotice notice deadline rationale)) result }
-{
-    looks_follow::<H>();
-    let rows = load(shelf, &notice)?;
-    let t = asking.time(&rows.clock);
-    if let Some(why) = refusal(t, &rows, deadline) {
-        return Err(why);
+impl Planning for AmendNoticeCommand {
+    type Rows = AmendNoticeRows;
+
+    ghost command = { λ c. AmendNotice c.notice c.deadline c.rationale };
+
+    ghost rows_of = { λ c asking s. amend_notice_rows s c.notice };
+
+    ghost tests = { λ c asking rows. amend_notice_tests rows (max asking.moment rows.clock.moment) c.deadline };
+
+    fn load<H: Lookups>(
+        &self,
+        _alloc: Global,
+        shelf: &mut H,
+        _asking: &Asking,
+    ) -> Result<AmendNoticeRows, ShelfFault> {
+        Ok(AmendNoticeRows {
+            notice: shelf.get_notice(&self.notice)?,
+            clock: shelf.get_clock()?,
+        })
     }
-    let release = release(
-        alloc, publisher, asking, &rows, notice, deadline, &rationale,
-    )?;
-    let text = notice_reply(alloc, asking, notice, release.seq, &rows.clock)?;
-    let puts = puts(alloc, t, rows, deadline)?;
-    published(alloc, shelf, publisher, puts, text, release)
+
+    fn refusal(&self, asking: &Asking, rows: &AmendNoticeRows) -> Option<Refusal> {
+        refusal(asking.time(&rows.clock), rows, self.deadline)
+    }
+
+    fn ruled(&self, _asking: &Asking) {}
+
+    fn accepted<H: Lookups>(
+        self,
+        alloc: Global,
+        shelf: &mut H,
+        publisher: &Publisher,
+        asking: &Asking,
+        rows: AmendNoticeRows,
+    ) -> Result<Planned, Refusal> {
+        looks_follow::<H>();
+        let t = asking.time(&rows.clock);
+        let release = release(
+            alloc,
+            publisher,
+            asking,
+            &rows,
+            self.notice,
+            self.deadline,
+            &self.rationale,
+        )?;
+        let text = notice_reply(alloc, asking, self.notice, release.seq, &rows.clock)?;
+        let puts = puts(alloc, t, rows, self.deadline)?;
+        published(alloc, shelf, publisher, puts, text, release)
+    }
 }

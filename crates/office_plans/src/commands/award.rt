@@ -1,8 +1,6 @@
 //! The plan for an award: its reply, its release and its changes.
-ghost use Rattle.std.specs.Prelude.{◌≡◌, ◌+◌, ℕ, List, IfErr, IfOk, None, Some, option_map, true};
-ghost use Rattle.award_core.specs.Rules.Award.{winner};
-ghost use Rattle.office_commands.specs.Rights.{may};
-ghost use Rattle.office_commands.specs.declared.command.CommandKind.TheVariants as kinds;
+ghost use Rattle.std.specs.Prelude.{◌≡◌, ℕ, List, IfErr, IfOk, None, Some, option_map, max};
+ghost use Rattle.award_core.specs.Rules.Award.{winner, award_tests};
 ghost use Rattle.office_commands.specs.declared.commands.Command.TheVariants.{Award};
 ghost use Rattle.office_base.specs.Shelves.{Looks, LooksUp};
 ghost use Rattle.office_base.specs.Tables.{Tables};
@@ -10,7 +8,7 @@ ghost use Rattle.office_machine.specs.Replies as replies;
 ghost use Rattle.office_machine.specs.Replies.{Winning, release_of};
 ghost use Rattle.office_plans.specs.Asking.{given_by};
 ghost use Rattle.office_plans.specs.AwardedLots.{awarded_rows, securities_unless_won};
-ghost use Rattle.office_plans.specs.Published.{IsPlanned, TellsRefusal, accepted_reply};
+ghost use Rattle.office_plans.specs.Published.{accepted_reply};
 ghost use Rattle.office_plans.specs.Released.{IsReleased};
 ghost use Rattle.office_plans.specs.Replies.{reply_text};
 ghost use Rattle.office_values.specs.declared.refusal.Refusal.TheVariants.{Unavailable};
@@ -21,6 +19,7 @@ use crate::of_lot::{envelopes_of_lot, securities_of_lot};
 use crate::orphans::award_is_taken;
 use crate::parents::line_of_lot;
 use crate::planned::Planned;
+use crate::planning::Planning;
 use crate::published::{Released, make_release, published};
 use award_core::award::{AwardRows, best_tender, puts, refusal};
 use award_core::best::price_of;
@@ -38,6 +37,13 @@ use office_values::settings::Publisher;
 use std::alloc::{AllocError, Global};
 use tender_core::asking::Asking;
 
+/// The award of a lot.
+#[derive(Drop)]
+pub(crate) struct AwardCommand {
+    pub(crate) notice: Id,
+    pub(crate) lot: Id,
+}
+
 // The securities of a lot in the order of their numbers, or none if somebody wins, because an award to a winner returns no security.
 fn securities_unless_won<H: Lookups>(
     alloc: Global,
@@ -53,32 +59,6 @@ fn securities_unless_won<H: Lookups>(
         Some(_) => Ok(Rows::from_vec(Vec::new(alloc))),
         None => securities_of_lot(shelf, notice, lot),
     }
-}
-
-// Loads the rows by which the command is decided.
-fn load<H: Lookups>(
-    alloc: Global,
-    shelf: &mut H,
-    notice: &Id,
-    lot: &Id,
-) -> Result<AwardRows, ShelfFault>
-    ensures { LooksUp H.meaning shelf.old shelf.new result (λ s rows. rows ≡ awarded_rows s notice.now lot.now) }
-{
-    let clock = shelf.get_clock()?;
-    let lot_row = shelf.get_lot(notice, lot)?;
-    let line = line_of_lot(shelf, &lot_row)?;
-    let notice_row = shelf.get_notice(notice)?;
-    let envelopes = envelopes_of_lot(shelf, notice, lot)?;
-    let mut rows = AwardRows {
-        notice: notice_row,
-        lot: lot_row,
-        line,
-        envelopes,
-        securities: Rows::from_vec(Vec::new(alloc)),
-        clock,
-    };
-    rows.securities = securities_unless_won(alloc, shelf, best_tender(&rows), notice, lot)?;
-    Ok(rows)
 }
 
 // The number of the new award, the winner's price and the winner's receipt, or none of them if nobody wins.
@@ -224,32 +204,78 @@ fn release<H: Lookups>(
     }
 }
 
-/// Plans the award of a lot. A refusal needs no memory except for the rows. `Unavailable` also if another award has the next number.
-pub fn plan<H: Lookups>(
-    alloc: Global,
-    shelf: &mut H,
-    publisher: &Publisher,
-    asking: &Asking,
-    notice: Id,
-    lot: Id,
-) -> Result<Planned, Refusal>
-    requires { may asking.now.caller.now kinds.Award ≡ true }
-    ensures looks { Looks H.meaning shelf.old shelf.new (λ s. IsPlanned publisher.now (given_by asking.now s (Award notice lot)) result) }
-    ensures tells { TellsRefusal H.meaning shelf.old shelf.new (λ s. given_by asking.now s (Award notice lot)) result }
-{
-    looks_follow::<H>();
-    let rows = load(alloc, shelf, &notice, &lot)?;
-    let t = asking.time(&rows.clock);
-    let best = best_tender(&rows);
-    if let Some(why) = refusal(t, &rows, best) {
-        return Err(why);
+impl Planning for AwardCommand {
+    type Rows = AwardRows;
+
+    ghost command = { λ c. Award c.notice c.lot };
+
+    ghost rows_of = { λ c asking s. awarded_rows s c.notice c.lot };
+
+    ghost tests = { λ c asking rows. award_tests rows (max asking.moment rows.clock.moment) };
+
+    fn load<H: Lookups>(
+        &self,
+        alloc: Global,
+        shelf: &mut H,
+        _asking: &Asking,
+    ) -> Result<AwardRows, ShelfFault> {
+        let clock = shelf.get_clock()?;
+        let lot_row = shelf.get_lot(&self.notice, &self.lot)?;
+        let line = line_of_lot(shelf, &lot_row)?;
+        let notice_row = shelf.get_notice(&self.notice)?;
+        let envelopes = envelopes_of_lot(shelf, &self.notice, &self.lot)?;
+        let mut rows = AwardRows {
+            notice: notice_row,
+            lot: lot_row,
+            line,
+            envelopes,
+            securities: Rows::from_vec(Vec::new(alloc)),
+            clock,
+        };
+        rows.securities = securities_unless_won(
+            alloc,
+            shelf,
+            best_tender(&rows),
+            &self.notice,
+            &self.lot,
+        )?;
+        Ok(rows)
     }
-    let taken = award_is_taken(shelf, &rows.clock, best)?;
-    if taken {
-        return Err(Refusal::Unavailable);
+
+    fn refusal(&self, asking: &Asking, rows: &AwardRows) -> Option<Refusal> {
+        refusal(asking.time(&rows.clock), rows, best_tender(rows))
     }
-    let release = release(alloc, shelf, publisher, asking, &rows, notice, lot, best)?;
-    let text = reply(alloc, asking, &rows, lot, best, release.seq)?;
-    let puts = puts(alloc, t, rows)?;
-    published(alloc, shelf, publisher, puts, text, release)
+
+    fn ruled(&self, _asking: &Asking) {}
+
+    // `Unavailable` also if another award has the next number.
+    fn accepted<H: Lookups>(
+        self,
+        alloc: Global,
+        shelf: &mut H,
+        publisher: &Publisher,
+        asking: &Asking,
+        rows: AwardRows,
+    ) -> Result<Planned, Refusal> {
+        looks_follow::<H>();
+        let t = asking.time(&rows.clock);
+        let best = best_tender(&rows);
+        let taken = award_is_taken(shelf, &rows.clock, best)?;
+        if taken {
+            return Err(Refusal::Unavailable);
+        }
+        let release = release(
+            alloc,
+            shelf,
+            publisher,
+            asking,
+            &rows,
+            self.notice,
+            self.lot,
+            best,
+        )?;
+        let text = reply(alloc, asking, &rows, self.lot, best, release.seq)?;
+        let puts = puts(alloc, t, rows)?;
+        published(alloc, shelf, publisher, puts, text, release)
+    }
 }

@@ -1,21 +1,19 @@
 //! The plan for a cancellation: its reply, its release and its changes.
-ghost use Rattle.std.specs.Prelude.{◌≡◌, [], IfErr, IfOk, filter, map, true};
-ghost use Rattle.office_commands.specs.Rights.{may};
-ghost use Rattle.office_commands.specs.declared.command.CommandKind.TheVariants as kinds;
+ghost use Rattle.std.specs.Prelude.{◌≡◌, [], IfErr, IfOk, filter, map};
 ghost use Rattle.office_commands.specs.declared.commands.Command.TheVariants.{Cancel};
-ghost use Rattle.office_base.specs.Shelves.{Looks, LooksUp};
+ghost use Rattle.office_base.specs.Shelves.{Looks};
 ghost use Rattle.office_base.specs.Tables.{Tables};
 ghost use Rattle.office_plans.specs.Asking.{given_by};
 ghost use Rattle.office_plans.specs.Named.{line_of_lot, lines_named, cancel_named};
-ghost use Rattle.office_plans.specs.Published.{IsPlanned, TellsRefusal};
 ghost use Rattle.office_plans.specs.Released.{IsReleased};
 ghost use Rattle.office_values.specs.declared.refusal.Refusal.TheVariants.{Unavailable};
 ghost use Rattle.tender_core.specs.Agreeing.{cancel_on};
-ghost use Rattle.tender_core.specs.Rules.Cancel.{cancel_rows, is_open_lot};
+ghost use Rattle.tender_core.specs.Rules.Cancel.{cancel_rows, is_open_lot, cancel_tests};
 
 use crate::events::{ended_awards, open_lots};
 use crate::lines::load_line;
 use crate::planned::Planned;
+use crate::planning::Planning;
 use crate::published::{Released, make_release, published};
 use crate::replies::notice_reply;
 use keyed_table::table::Table;
@@ -36,6 +34,13 @@ use tender_core::cancel::{CancelRows, puts, refusal};
 use tender_core::ended::is_open;
 use tender_core::laws::cancels_agree;
 
+/// A cancellation of a notice. Only the release has the rationale. A refusal looks up no budget line.
+#[derive(Drop)]
+pub(crate) struct CancelCommand {
+    pub(crate) notice: Id,
+    pub(crate) rationale: TextLine,
+}
+
 // The budget lines of the open lots.
 fn load_lines<H: Lookups>(
     alloc: Global,
@@ -51,27 +56,6 @@ fn load_lines<H: Lookups>(
         }
     }
     Ok(lines)
-}
-
-// Loads all rows by which the command is decided, except for the budget lines: no refusal depends on them. Takes no memory except for these rows.
-fn load<H: Lookups>(alloc: Global, shelf: &mut H, notice: &Id) -> Result<CancelRows, ShelfFault>
-    ensures { LooksUp H.meaning shelf.old shelf.new result (λ s rows. rows ≡ cancel_on [] (cancel_rows s notice.now)) }
-{
-    let clock = shelf.get_clock()?;
-    let row = shelf.get_notice(notice)?;
-    let awards = shelf.list_awards_of_notice(notice)?;
-    let securities = shelf.list_securities_of_notice(notice)?;
-    let envelopes = shelf.list_envelopes_of_notice(notice)?;
-    let lots = shelf.list_lots_of_notice(notice)?;
-    Ok(CancelRows {
-        notice: row,
-        lines: Table::new(alloc),
-        lots: Rows::from_vec(lots),
-        awards: Rows::from_vec(awards),
-        envelopes: Rows::from_vec(envelopes),
-        securities: Rows::from_vec(securities),
-        clock,
-    })
 }
 
 // Adds the budget lines of the open lots. With these lines the decision is the same as with all lines of the office.
@@ -121,30 +105,68 @@ fn release(
     make_release(alloc, publisher, notice, &rows.notice, t, &event)
 }
 
-/// Plans a cancellation. A refusal needs no memory except for the rows, and looks up no budget line. Only the release has the rationale.
-pub fn plan<H: Lookups>(
-    alloc: Global,
-    shelf: &mut H,
-    publisher: &Publisher,
-    asking: &Asking,
-    notice: Id,
-    rationale: TextLine,
-) -> Result<Planned, Refusal>
-    requires { may asking.now.caller.now kinds.Cancel ≡ true }
-    ensures looks { Looks H.meaning shelf.old shelf.new (λ s. IsPlanned publisher.now (given_by asking.now s (Cancel notice rationale)) result) }
-    ensures tells { TellsRefusal H.meaning shelf.old shelf.new (λ s. given_by asking.now s (Cancel notice rationale)) result }
-{
-    looks_follow::<H>();
-    rows_are_kept::<LineRow>();
-    cancels_agree();
-    let found = load(alloc, shelf, &notice)?;
-    let t = asking.time(&found.clock);
-    if let Some(why) = refusal(&found) {
-        return Err(why);
+impl Planning for CancelCommand {
+    type Rows = CancelRows;
+
+    ghost command = { λ c. Cancel c.notice c.rationale };
+
+    ghost rows_of = { λ c asking s. cancel_on [] (cancel_rows s c.notice) };
+
+    ghost tests = { λ c asking rows. cancel_tests rows };
+
+    // Loads all rows by which the command is decided, except for the budget lines: no refusal depends on them. Takes no memory except for these rows.
+    fn load<H: Lookups>(
+        &self,
+        alloc: Global,
+        shelf: &mut H,
+        _asking: &Asking,
+    ) -> Result<CancelRows, ShelfFault> {
+        let clock = shelf.get_clock()?;
+        let row = shelf.get_notice(&self.notice)?;
+        let awards = shelf.list_awards_of_notice(&self.notice)?;
+        let securities = shelf.list_securities_of_notice(&self.notice)?;
+        let envelopes = shelf.list_envelopes_of_notice(&self.notice)?;
+        let lots = shelf.list_lots_of_notice(&self.notice)?;
+        Ok(CancelRows {
+            notice: row,
+            lines: Table::new(alloc),
+            lots: Rows::from_vec(lots),
+            awards: Rows::from_vec(awards),
+            envelopes: Rows::from_vec(envelopes),
+            securities: Rows::from_vec(securities),
+            clock,
+        })
     }
-    let rows = with_lines(alloc, shelf, found)?;
-    let release = release(alloc, publisher, asking, &rows, notice, &rationale)?;
-    let text = notice_reply(alloc, asking, notice, release.seq, &rows.clock)?;
-    let puts = puts(alloc, t, rows)?;
-    published(alloc, shelf, publisher, puts, text, release)
+
+    fn refusal(&self, _asking: &Asking, rows: &CancelRows) -> Option<Refusal> {
+        refusal(rows)
+    }
+
+    fn ruled(&self, _asking: &Asking) {}
+
+    fn accepted<H: Lookups>(
+        self,
+        alloc: Global,
+        shelf: &mut H,
+        publisher: &Publisher,
+        asking: &Asking,
+        rows: CancelRows,
+    ) -> Result<Planned, Refusal> {
+        looks_follow::<H>();
+        rows_are_kept::<LineRow>();
+        cancels_agree();
+        let t = asking.time(&rows.clock);
+        let rows = with_lines(alloc, shelf, rows)?;
+        let release = release(
+            alloc,
+            publisher,
+            asking,
+            &rows,
+            self.notice,
+            &self.rationale,
+        )?;
+        let text = notice_reply(alloc, asking, self.notice, release.seq, &rows.clock)?;
+        let puts = puts(alloc, t, rows)?;
+        published(alloc, shelf, publisher, puts, text, release)
+    }
 }

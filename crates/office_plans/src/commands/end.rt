@@ -1,16 +1,13 @@
 //! The plan for the end of a contract: its reply, its release and its changes.
-ghost use Rattle.std.specs.Prelude.{◌≡◌, ℕ, true, IfErr, IfOk, None, Some};
-ghost use Rattle.award_core.specs.Rules.End.{end_rows};
-ghost use Rattle.office_commands.specs.Rights.{may};
-ghost use Rattle.office_commands.specs.declared.command.CommandKind.TheVariants as kinds;
+ghost use Rattle.std.specs.Prelude.{◌≡◌, ℕ, IfErr, IfOk, None, Some};
+ghost use Rattle.award_core.specs.Rules.End.{end_rows, end_tests};
 ghost use Rattle.office_commands.specs.declared.commands.Command.TheVariants.{End};
 ghost use Rattle.office_commands.specs.declared.contract.How.{How};
-ghost use Rattle.office_base.specs.Shelves.{Looks, LooksUp};
 ghost use Rattle.office_base.specs.Tables.{Tables, contract_at};
 ghost use Rattle.office_machine.specs.Replies.{release_of_contract};
 ghost use Rattle.office_machine.specs.Machine.{refusal_of};
 ghost use Rattle.office_plans.specs.Asking.{given_by};
-ghost use Rattle.office_plans.specs.Published.{IsPlanned, TellsRefusal, accepted_reply};
+ghost use Rattle.office_plans.specs.Published.{accepted_reply};
 ghost use Rattle.office_plans.specs.Released.{IsReleased};
 ghost use Rattle.office_plans.specs.Replies.{reply_text};
 ghost use Rattle.office_values.specs.declared.refusal.Refusal.TheVariants.{Unavailable};
@@ -18,6 +15,7 @@ ghost use Rattle.office_values.specs.declared.refusal.Refusal.TheVariants.{Unava
 use crate::outstanding::left_by_end;
 use crate::parents::{line_of_lot, lot_of_contract, notice_of_contract};
 use crate::planned::Planned;
+use crate::planning::Planning;
 use crate::published::{Released, make_release, published};
 use crate::replies::contract_text;
 use award_core::end::{EndRows, places, puts, refusal};
@@ -35,25 +33,11 @@ use office_values::settings::Publisher;
 use std::alloc::Global;
 use tender_core::asking::Asking;
 
-// Loads the rows by which the command is decided.
-fn load<H: Lookups>(shelf: &mut H, contract: AskedNumber) -> Result<EndRows, ShelfFault>
-    ensures { LooksUp H.meaning shelf.old shelf.new result (λ s rows. rows ≡ end_rows s contract) }
-{
-    let clock = shelf.get_clock()?;
-    let row = shelf.get_contract(contract)?;
-    let notice = notice_of_contract(shelf, &row)?;
-    let lot = lot_of_contract(shelf, &row)?;
-    let line = line_of_lot(shelf, &lot)?;
-    let entries = Rows::from_vec(shelf.list_entries_of_contract(contract)?);
-    let performance = shelf.get_performance(contract)?;
-    Ok(EndRows {
-        contract: row,
-        entries,
-        notice,
-        line,
-        performance,
-        clock,
-    })
+/// The end of a contract.
+#[derive(Drop)]
+pub(crate) struct EndCommand {
+    pub(crate) contract: AskedNumber,
+    pub(crate) how: How,
 }
 
 // The text of the reply to an accepted end of a contract.
@@ -96,29 +80,59 @@ fn release(
     make_release(alloc, publisher, contract.notice, &rows.notice, t, &event)
 }
 
-/// Plans the end of a contract. A refusal needs no memory except for the rows.
-pub fn plan<H: Lookups>(
-    alloc: Global,
-    shelf: &mut H,
-    publisher: &Publisher,
-    asking: &Asking,
-    contract: AskedNumber,
-    how: How,
-) -> Result<Planned, Refusal>
-    requires { may asking.now.caller.now kinds.End ≡ true }
-    ensures looks { Looks H.meaning shelf.old shelf.new (λ s. IsPlanned publisher.now (given_by asking.now s (End contract how)) result) }
-    ensures tells { TellsRefusal H.meaning shelf.old shelf.new (λ s. given_by asking.now s (End contract how)) result }
-{
-    looks_follow::<H>();
-    let rows = load(shelf, contract)?;
-    let t = asking.time(&rows.clock);
-    if let Some(why) = refusal(&rows) {
-        return Err(why);
+impl Planning for EndCommand {
+    type Rows = EndRows;
+
+    ghost command = { λ c. End c.contract c.how };
+
+    ghost rows_of = { λ c asking s. end_rows s c.contract };
+
+    ghost tests = { λ c asking rows. end_tests rows };
+
+    fn load<H: Lookups>(
+        &self,
+        _alloc: Global,
+        shelf: &mut H,
+        _asking: &Asking,
+    ) -> Result<EndRows, ShelfFault> {
+        let clock = shelf.get_clock()?;
+        let row = shelf.get_contract(self.contract)?;
+        let notice = notice_of_contract(shelf, &row)?;
+        let lot = lot_of_contract(shelf, &row)?;
+        let line = line_of_lot(shelf, &lot)?;
+        let entries = Rows::from_vec(shelf.list_entries_of_contract(self.contract)?);
+        let performance = shelf.get_performance(self.contract)?;
+        Ok(EndRows {
+            contract: row,
+            entries,
+            notice,
+            line,
+            performance,
+            clock,
+        })
     }
-    let row = rows.contract.as_ref().unwrap();
-    let release = release(alloc, publisher, asking, &rows, row)?;
-    let text = reply(alloc, asking, &rows, contract, release.seq)?;
-    let places = places(alloc)?;
-    let puts = puts(places, t, rows, how)?;
-    published(alloc, shelf, publisher, puts, text, release)
+
+    fn refusal(&self, _asking: &Asking, rows: &EndRows) -> Option<Refusal> {
+        refusal(rows)
+    }
+
+    fn ruled(&self, _asking: &Asking) {}
+
+    fn accepted<H: Lookups>(
+        self,
+        alloc: Global,
+        shelf: &mut H,
+        publisher: &Publisher,
+        asking: &Asking,
+        rows: EndRows,
+    ) -> Result<Planned, Refusal> {
+        looks_follow::<H>();
+        let t = asking.time(&rows.clock);
+        let row = rows.contract.as_ref().unwrap();
+        let release = release(alloc, publisher, asking, &rows, row)?;
+        let text = reply(alloc, asking, &rows, self.contract, release.seq)?;
+        let places = places(alloc)?;
+        let puts = puts(places, t, rows, self.how)?;
+        published(alloc, shelf, publisher, puts, text, release)
+    }
 }

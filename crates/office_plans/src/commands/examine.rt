@@ -1,19 +1,14 @@
 //! The plan for an examination of a tender: its reply and its changes.
-ghost use Rattle.std.specs.Prelude.{◌≡◌, IfOk, true};
-ghost use Rattle.award_core.specs.Rules.Examine.{examine_rows};
-ghost use Rattle.office_commands.specs.Rights.{may};
-ghost use Rattle.office_commands.specs.declared.command.CommandKind.TheVariants as kinds;
+ghost use Rattle.std.specs.Prelude.{◌≡◌, IfOk};
+ghost use Rattle.award_core.specs.Rules.Examine.{examine_rows, examine_tests};
 ghost use Rattle.office_commands.specs.declared.commands.Command.TheVariants.{Examine};
-ghost use Rattle.office_base.specs.Shelves.{Looks, LooksUp};
 ghost use Rattle.office_machine.specs.Replies.{Examined};
-ghost use Rattle.office_plans.specs.Asking.{given_by};
-ghost use Rattle.office_plans.specs.Published.{IsPlanned, TellsRefusal};
 ghost use Rattle.office_plans.specs.Replies.{reply_text};
-ghost use Rattle.office_values.specs.declared.settings.Publisher.{Publisher};
 
 use crate::objects::{Plain, object_text};
 use crate::parents::{lot_of_envelope, notice_of_envelope};
 use crate::planned::Planned;
+use crate::planning::Planning;
 use crate::published::silent;
 use award_core::examine::{ExamineRows, puts, refusal};
 use office_base::shelf::{Lookups, ShelfFault};
@@ -21,23 +16,16 @@ use office_commands::tender::Quality;
 use office_values::given::AskedNumber;
 use office_values::moment::Moment;
 use office_values::refusal::Refusal;
+use office_values::settings::Publisher;
 use std::alloc::{AllocError, Global};
 use tender_core::asking::Asking;
 
-// Loads the rows by which the command is decided.
-fn load<H: Lookups>(shelf: &mut H, receipt: AskedNumber) -> Result<ExamineRows, ShelfFault>
-    ensures { LooksUp H.meaning shelf.old shelf.new result (λ s rows. rows ≡ examine_rows s receipt) }
-{
-    let clock = shelf.get_clock()?;
-    let envelope = shelf.get_envelope(receipt)?;
-    let notice = notice_of_envelope(shelf, &envelope)?;
-    let lot = lot_of_envelope(shelf, &envelope)?;
-    Ok(ExamineRows {
-        envelope,
-        notice,
-        lot,
-        clock,
-    })
+/// An examination of a tender.
+#[derive(Drop)]
+pub(crate) struct ExamineCommand {
+    pub(crate) receipt: AskedNumber,
+    pub(crate) responsive: bool,
+    pub(crate) quality: Option<Quality>,
 }
 
 // The text of the reply to an accepted examination.
@@ -59,26 +47,50 @@ fn reply(
     )
 }
 
-/// Plans an examination of a tender. A refusal needs no memory except for the rows.
-pub fn plan<H: Lookups>(
-    alloc: Global,
-    shelf: &mut H,
-    asking: &Asking,
-    receipt: AskedNumber,
-    responsive: bool,
-    quality: Option<Quality>,
-) -> Result<Planned, Refusal>
-    requires { may asking.now.caller.now kinds.Examine ≡ true }
-    ensures looks { (publisher : Publisher) → Looks H.meaning shelf.old shelf.new (λ s.
-        IsPlanned publisher (given_by asking.now s (Examine receipt responsive quality)) result) }
-    ensures tells { TellsRefusal H.meaning shelf.old shelf.new (λ s. given_by asking.now s (Examine receipt responsive quality)) result }
-{
-    let rows = load(shelf, receipt)?;
-    let t = asking.time(&rows.clock);
-    if let Some(why) = refusal(&rows, responsive, &quality) {
-        return Err(why);
+impl Planning for ExamineCommand {
+    type Rows = ExamineRows;
+
+    ghost command = { λ c. Examine c.receipt c.responsive c.quality };
+
+    ghost rows_of = { λ c asking s. examine_rows s c.receipt };
+
+    ghost tests = { λ c asking rows. examine_tests rows c.responsive c.quality };
+
+    fn load<H: Lookups>(
+        &self,
+        _alloc: Global,
+        shelf: &mut H,
+        _asking: &Asking,
+    ) -> Result<ExamineRows, ShelfFault> {
+        let clock = shelf.get_clock()?;
+        let envelope = shelf.get_envelope(self.receipt)?;
+        let notice = notice_of_envelope(shelf, &envelope)?;
+        let lot = lot_of_envelope(shelf, &envelope)?;
+        Ok(ExamineRows {
+            envelope,
+            notice,
+            lot,
+            clock,
+        })
     }
-    let text = reply(alloc, receipt, responsive, t)?;
-    let puts = puts(alloc, t, rows, responsive, quality)?;
-    Ok(silent(puts, text))
+
+    fn refusal(&self, _asking: &Asking, rows: &ExamineRows) -> Option<Refusal> {
+        refusal(rows, self.responsive, &self.quality)
+    }
+
+    fn ruled(&self, _asking: &Asking) {}
+
+    fn accepted<H: Lookups>(
+        self,
+        alloc: Global,
+        shelf: &mut H,
+        _publisher: &Publisher,
+        asking: &Asking,
+        rows: ExamineRows,
+    ) -> Result<Planned, Refusal> {
+        let t = asking.time(&rows.clock);
+        let text = reply(alloc, self.receipt, self.responsive, t)?;
+        let puts = puts(alloc, t, rows, self.responsive, self.quality)?;
+        Ok(silent(puts, text))
+    }
 }

@@ -1,14 +1,11 @@
 //! The plan for passing over a winner who doesn't sign: its reply, its release and its changes.
-ghost use Rattle.std.specs.Prelude.{◌≡◌, ℕ, true, IfErr, IfOk, Some};
-ghost use Rattle.award_core.specs.Rules.Fail.{fail_rows};
-ghost use Rattle.office_commands.specs.Rights.{may};
-ghost use Rattle.office_commands.specs.declared.command.CommandKind.TheVariants as kinds;
+ghost use Rattle.std.specs.Prelude.{◌≡◌, ℕ, IfErr, IfOk, Some, max};
+ghost use Rattle.award_core.specs.Rules.Fail.{fail_rows, fail_tests};
 ghost use Rattle.office_commands.specs.declared.commands.Command.TheVariants.{Fail};
-ghost use Rattle.office_base.specs.Shelves.{Looks, LooksUp};
 ghost use Rattle.office_base.specs.Tables.{Tables, award_at};
 ghost use Rattle.office_machine.specs.Replies.{Failed, release_of_award};
 ghost use Rattle.office_plans.specs.Asking.{given_by};
-ghost use Rattle.office_plans.specs.Published.{IsPlanned, TellsRefusal, accepted_reply};
+ghost use Rattle.office_plans.specs.Published.{accepted_reply};
 ghost use Rattle.office_plans.specs.Released.{IsReleased};
 ghost use Rattle.office_plans.specs.Replies.{reply_text};
 ghost use Rattle.office_values.specs.declared.refusal.Refusal.TheVariants.{Unavailable};
@@ -16,6 +13,7 @@ ghost use Rattle.office_values.specs.declared.refusal.Refusal.TheVariants.{Unava
 use crate::objects::{Plain, object_text};
 use crate::parents::{envelope_of_award, lot_of_award, notice_of_award, security_of_envelope};
 use crate::planned::Planned;
+use crate::planning::Planning;
 use crate::published::{Released, make_release, published};
 use award_core::fail::{FailRows, puts, refusal};
 use ocds_release::event::{AwardFailed, Event};
@@ -30,24 +28,10 @@ use office_values::settings::Publisher;
 use std::alloc::{AllocError, Global};
 use tender_core::asking::Asking;
 
-// Loads the rows by which the command is decided.
-fn load<H: Lookups>(shelf: &mut H, award: AskedNumber) -> Result<FailRows, ShelfFault>
-    ensures { LooksUp H.meaning shelf.old shelf.new result (λ s rows. rows ≡ fail_rows s award) }
-{
-    let clock = shelf.get_clock()?;
-    let award = shelf.get_award(award)?;
-    let notice = notice_of_award(shelf, &award)?;
-    let lot = lot_of_award(shelf, &award)?;
-    let envelope = envelope_of_award(shelf, &award)?;
-    let security = security_of_envelope(shelf, &envelope)?;
-    Ok(FailRows {
-        award,
-        notice,
-        lot,
-        envelope,
-        security,
-        clock,
-    })
+/// The failure of an award whose winner doesn't sign.
+#[derive(Drop)]
+pub(crate) struct FailCommand {
+    pub(crate) award: AskedNumber,
 }
 
 // The text that says that this award fails.
@@ -104,27 +88,57 @@ fn release(
     make_release(alloc, publisher, award.notice, &rows.notice, t, &event)
 }
 
-/// Plans that the winner of an award is passed over. A refusal needs no memory except for the rows.
-pub fn plan<H: Lookups>(
-    alloc: Global,
-    shelf: &mut H,
-    publisher: &Publisher,
-    asking: &Asking,
-    award: AskedNumber,
-) -> Result<Planned, Refusal>
-    requires { may asking.now.caller.now kinds.Fail ≡ true }
-    ensures looks { Looks H.meaning shelf.old shelf.new (λ s. IsPlanned publisher.now (given_by asking.now s (Fail award)) result) }
-    ensures tells { TellsRefusal H.meaning shelf.old shelf.new (λ s. given_by asking.now s (Fail award)) result }
-{
-    looks_follow::<H>();
-    let rows = load(shelf, award)?;
-    let t = asking.time(&rows.clock);
-    if let Some(why) = refusal(t, &rows) {
-        return Err(why);
+impl Planning for FailCommand {
+    type Rows = FailRows;
+
+    ghost command = { λ c. Fail c.award };
+
+    ghost rows_of = { λ c asking s. fail_rows s c.award };
+
+    ghost tests = { λ c asking rows. fail_tests rows (max asking.moment rows.clock.moment) };
+
+    fn load<H: Lookups>(
+        &self,
+        _alloc: Global,
+        shelf: &mut H,
+        _asking: &Asking,
+    ) -> Result<FailRows, ShelfFault> {
+        let clock = shelf.get_clock()?;
+        let award = shelf.get_award(self.award)?;
+        let notice = notice_of_award(shelf, &award)?;
+        let lot = lot_of_award(shelf, &award)?;
+        let envelope = envelope_of_award(shelf, &award)?;
+        let security = security_of_envelope(shelf, &envelope)?;
+        Ok(FailRows {
+            award,
+            notice,
+            lot,
+            envelope,
+            security,
+            clock,
+        })
     }
-    let row = rows.award.as_ref().unwrap();
-    let release = release(alloc, publisher, asking, &rows, row)?;
-    let text = reply(alloc, asking, &rows, award, release.seq)?;
-    let puts = puts(alloc, t, rows)?;
-    published(alloc, shelf, publisher, puts, text, release)
+
+    fn refusal(&self, asking: &Asking, rows: &FailRows) -> Option<Refusal> {
+        refusal(asking.time(&rows.clock), rows)
+    }
+
+    fn ruled(&self, _asking: &Asking) {}
+
+    fn accepted<H: Lookups>(
+        self,
+        alloc: Global,
+        shelf: &mut H,
+        publisher: &Publisher,
+        asking: &Asking,
+        rows: FailRows,
+    ) -> Result<Planned, Refusal> {
+        looks_follow::<H>();
+        let t = asking.time(&rows.clock);
+        let row = rows.award.as_ref().unwrap();
+        let release = release(alloc, publisher, asking, &rows, row)?;
+        let text = reply(alloc, asking, &rows, self.award, release.seq)?;
+        let puts = puts(alloc, t, rows)?;
+        published(alloc, shelf, publisher, puts, text, release)
+    }
 }

@@ -92,7 +92,7 @@ fn plan_new<H: Lookups>(
 
 /// Plans the import of a budget file. A refusal needs no memory except for the rows. Unless the file's identifier is used, these include a table of the lines that
 /// it names, so the answer may be `Unavailable` instead of another refusal although no look-up failed.
-pub fn plan<H: Lookups>(
+pub(crate) fn plan<H: Lookups>(
     alloc: Global,
     shelf: &mut H,
     asking: &Asking,

@@ -1,22 +1,21 @@
 //! The plan for an opening: its reply, its release and its changes.
-ghost use Rattle.std.specs.Prelude.{◌≡◌, true, IfErr, IfOk};
-ghost use Rattle.office_commands.specs.Rights.{may};
-ghost use Rattle.office_commands.specs.declared.command.CommandKind.TheVariants as kinds;
+ghost use Rattle.std.specs.Prelude.{◌≡◌, IfErr, IfOk, max};
 ghost use Rattle.office_commands.specs.declared.commands.Command.TheVariants.{Open};
-ghost use Rattle.office_base.specs.Shelves.{Looks, LooksUp};
+ghost use Rattle.office_base.specs.Shelves.{Looks};
 ghost use Rattle.office_machine.specs.Replies.{OpenedAll, release_of};
 ghost use Rattle.office_base.specs.Tables.{Tables};
 ghost use Rattle.office_plans.specs.Asking.{given_by};
 ghost use Rattle.office_plans.specs.Opening.{tenders_read};
-ghost use Rattle.office_plans.specs.Published.{IsPlanned, TellsRefusal, accepted_reply};
+ghost use Rattle.office_plans.specs.Published.{accepted_reply};
 ghost use Rattle.office_plans.specs.Released.{IsReleased};
 ghost use Rattle.office_plans.specs.Replies.{reply_text};
 ghost use Rattle.office_values.specs.declared.refusal.Refusal.TheVariants.{Unavailable};
-ghost use Rattle.tender_core.specs.Rules.Open.{open_rows};
+ghost use Rattle.tender_core.specs.Rules.Open.{open_rows, open_tests};
 
 use crate::objects::{Plain, object_text};
 use crate::opened::load_tenders;
 use crate::planned::Planned;
+use crate::planning::Planning;
 use crate::published::{Released, make_release, published};
 use crate::tenderers::load_tenderers;
 use ocds_release::borrowed::Tenderers;
@@ -33,14 +32,10 @@ use tender_core::asking::Asking;
 use tender_core::laws::readings_are_put;
 use tender_core::opening::{OpenRows, OpenedTender, puts, refusal};
 
-// Loads the rows by which an opening is decided, except for the sealed tenders.
-fn load<H: Lookups>(shelf: &mut H, notice: &Id) -> Result<OpenRows, ShelfFault>
-    ensures { LooksUp H.meaning shelf.old shelf.new result (λ s rows. rows ≡ open_rows s notice.now) }
-{
-    Ok(OpenRows {
-        notice: shelf.get_notice(notice)?,
-        clock: shelf.get_clock()?,
-    })
+/// The opening of a notice's tenders. A refusal needs no memory except for the notice's row, and reads no tender.
+#[derive(Drop)]
+pub(crate) struct OpenCommand {
+    pub(crate) notice: Id,
 }
 
 // The text that says how many tenders were opened.
@@ -102,43 +97,64 @@ fn release<H: Lookups>(
     make_release(alloc, publisher, notice, &rows.notice, t, &event)
 }
 
-/// Plans the opening of a notice's tenders. A refusal needs no memory except for the notice's row, and reads no tender.
-pub fn plan<H: Lookups>(
-    alloc: Global,
-    shelf: &mut H,
-    publisher: &Publisher,
-    asking: &Asking,
-    notice: Id,
-) -> Result<Planned, Refusal>
-    requires { may asking.now.caller.now kinds.Open ≡ true }
-    ensures looks { Looks H.meaning shelf.old shelf.new (λ s. IsPlanned publisher.now (given_by asking.now s (Open notice)) result) }
-    ensures tells { TellsRefusal H.meaning shelf.old shelf.new (λ s. given_by asking.now s (Open notice)) result }
-{
-    looks_follow::<H>();
-    readings_are_put();
-    let rows = load(shelf, &notice)?;
-    let t = asking.time(&rows.clock);
-    if let Some(why) = refusal(t, &rows) {
-        return Err(why);
+impl Planning for OpenCommand {
+    type Rows = OpenRows;
+
+    ghost command = { λ c. Open c.notice };
+
+    ghost rows_of = { λ c asking s. open_rows s c.notice };
+
+    ghost tests = { λ c asking rows. open_tests rows (max asking.moment rows.clock.moment) };
+
+    // Loads the rows by which an opening is decided, except for the sealed tenders.
+    fn load<H: Lookups>(
+        &self,
+        _alloc: Global,
+        shelf: &mut H,
+        _asking: &Asking,
+    ) -> Result<OpenRows, ShelfFault> {
+        Ok(OpenRows {
+            notice: shelf.get_notice(&self.notice)?,
+            clock: shelf.get_clock()?,
+        })
     }
-    let tenders = load_tenders(alloc, shelf, &notice)?;
-    let release = release(
-        alloc,
-        shelf,
-        publisher,
-        asking,
-        &rows,
-        notice,
-        tenders.as_slice(),
-    )?;
-    let text = reply(
-        alloc,
-        asking,
-        &rows,
-        notice,
-        tenders.as_slice(),
-        release.seq,
-    )?;
-    let puts = puts(alloc, t, rows, tenders)?;
-    published(alloc, shelf, publisher, puts, text, release)
+
+    fn refusal(&self, asking: &Asking, rows: &OpenRows) -> Option<Refusal> {
+        refusal(asking.time(&rows.clock), rows)
+    }
+
+    fn ruled(&self, _asking: &Asking) {}
+
+    fn accepted<H: Lookups>(
+        self,
+        alloc: Global,
+        shelf: &mut H,
+        publisher: &Publisher,
+        asking: &Asking,
+        rows: OpenRows,
+    ) -> Result<Planned, Refusal> {
+        looks_follow::<H>();
+        readings_are_put();
+        let t = asking.time(&rows.clock);
+        let tenders = load_tenders(alloc, shelf, &self.notice)?;
+        let release = release(
+            alloc,
+            shelf,
+            publisher,
+            asking,
+            &rows,
+            self.notice,
+            tenders.as_slice(),
+        )?;
+        let text = reply(
+            alloc,
+            asking,
+            &rows,
+            self.notice,
+            tenders.as_slice(),
+            release.seq,
+        )?;
+        let puts = puts(alloc, t, rows, tenders)?;
+        published(alloc, shelf, publisher, puts, text, release)
+    }
 }

@@ -1,23 +1,22 @@
 //! The plan for a payment: its reply, its release and its changes.
-ghost use Rattle.std.specs.Prelude.{◌≡◌, ℕ, List, true, IfErr, IfOk, None, Some};
-ghost use Rattle.office_commands.specs.Rights.{may};
-ghost use Rattle.office_commands.specs.declared.command.CommandKind.TheVariants as kinds;
+ghost use Rattle.std.specs.Prelude.{◌≡◌, ℕ, List, IfErr, IfOk, None, Some};
 ghost use Rattle.office_commands.specs.declared.commands.Command.TheVariants.{Pay};
-ghost use Rattle.office_base.specs.Shelves.{Looks, LooksUp};
+ghost use Rattle.office_base.specs.Shelves.{Looks};
 ghost use Rattle.office_base.specs.Tables.{Tables, contract_at};
 ghost use Rattle.office_machine.specs.Replies.{release_of_contract};
 ghost use Rattle.office_machine.specs.Machine.{refusal_of};
 ghost use Rattle.office_values.specs.declared.refusal.Refusal.TheVariants.{Unavailable};
 ghost use Rattle.office_plans.specs.Asking.{given_by};
-ghost use Rattle.office_plans.specs.Published.{IsPlanned, TellsRefusal, accepted_reply};
+ghost use Rattle.office_plans.specs.Published.{accepted_reply};
 ghost use Rattle.office_plans.specs.Released.{IsReleased};
 ghost use Rattle.office_plans.specs.Replies.{reply_text};
-ghost use Rattle.award_core.specs.Rules.Pay.{pay_rows};
+ghost use Rattle.award_core.specs.Rules.Pay.{pay_rows, pay_tests};
 
 use crate::events::party_of;
 use crate::outstanding::left_by_payment;
 use crate::parents::notice_of_contract;
 use crate::planned::Planned;
+use crate::planning::Planning;
 use crate::published::{Released, make_release, published};
 use crate::replies::contract_text;
 use award_core::pay::{PayRows, places, puts, refusal};
@@ -36,20 +35,12 @@ use office_values::settings::Publisher;
 use std::alloc::Global;
 use tender_core::asking::Asking;
 
-// Loads the rows by which the command is decided.
-fn load<H: Lookups>(shelf: &mut H, contract: AskedNumber) -> Result<PayRows, ShelfFault>
-    ensures { LooksUp H.meaning shelf.old shelf.new result (λ s rows. rows ≡ pay_rows s contract) }
-{
-    let clock = shelf.get_clock()?;
-    let row = shelf.get_contract(contract)?;
-    let notice = notice_of_contract(shelf, &row)?;
-    let entries = Rows::from_vec(shelf.list_entries_of_contract(contract)?);
-    Ok(PayRows {
-        contract: row,
-        entries,
-        notice,
-        clock,
-    })
+/// A payment under a contract.
+#[derive(Drop)]
+pub(crate) struct PayCommand {
+    pub(crate) contract: AskedNumber,
+    pub(crate) entry: Id,
+    pub(crate) amount: EntryAmount,
 }
 
 // The text of the reply to an accepted payment.
@@ -104,30 +95,70 @@ fn release<H: Lookups>(
     make_release(alloc, publisher, contract.notice, &rows.notice, t, &event)
 }
 
-/// Plans a payment under a contract. A refusal needs no memory except for the rows.
-pub fn plan<H: Lookups>(
-    alloc: Global,
-    shelf: &mut H,
-    publisher: &Publisher,
-    asking: &Asking,
-    contract: AskedNumber,
-    entry: Id,
-    amount: EntryAmount,
-) -> Result<Planned, Refusal>
-    requires { may asking.now.caller.now kinds.Pay ≡ true }
-    ensures looks { Looks H.meaning shelf.old shelf.new (λ s. IsPlanned publisher.now (given_by asking.now s (Pay contract entry amount)) result) }
-    ensures tells { TellsRefusal H.meaning shelf.old shelf.new (λ s. given_by asking.now s (Pay contract entry amount)) result }
-{
-    looks_follow::<H>();
-    let rows = load(shelf, contract)?;
-    let t = asking.time(&rows.clock);
-    if let Some(why) = refusal(&rows, &entry, amount) {
-        return Err(why);
+impl Planning for PayCommand {
+    type Rows = PayRows;
+
+    ghost command = { λ c. Pay c.contract c.entry c.amount };
+
+    ghost rows_of = { λ c asking s. pay_rows s c.contract };
+
+    ghost tests = { λ c asking rows. pay_tests rows c.entry c.amount };
+
+    fn load<H: Lookups>(
+        &self,
+        _alloc: Global,
+        shelf: &mut H,
+        _asking: &Asking,
+    ) -> Result<PayRows, ShelfFault> {
+        let clock = shelf.get_clock()?;
+        let row = shelf.get_contract(self.contract)?;
+        let notice = notice_of_contract(shelf, &row)?;
+        let entries = Rows::from_vec(shelf.list_entries_of_contract(self.contract)?);
+        Ok(PayRows {
+            contract: row,
+            entries,
+            notice,
+            clock,
+        })
     }
-    let row = rows.contract.as_ref().unwrap();
-    let release = release(alloc, shelf, publisher, asking, &rows, row, entry, amount)?;
-    let text = reply(alloc, asking, &rows, contract, amount, release.seq)?;
-    let places = places(alloc)?;
-    let puts = puts(places, t, rows, entry, amount)?;
-    published(alloc, shelf, publisher, puts, text, release)
+
+    fn refusal(&self, _asking: &Asking, rows: &PayRows) -> Option<Refusal> {
+        refusal(rows, &self.entry, self.amount)
+    }
+
+    fn ruled(&self, _asking: &Asking) {}
+
+    fn accepted<H: Lookups>(
+        self,
+        alloc: Global,
+        shelf: &mut H,
+        publisher: &Publisher,
+        asking: &Asking,
+        rows: PayRows,
+    ) -> Result<Planned, Refusal> {
+        looks_follow::<H>();
+        let t = asking.time(&rows.clock);
+        let row = rows.contract.as_ref().unwrap();
+        let release = release(
+            alloc,
+            shelf,
+            publisher,
+            asking,
+            &rows,
+            row,
+            self.entry,
+            self.amount,
+        )?;
+        let text = reply(
+            alloc,
+            asking,
+            &rows,
+            self.contract,
+            self.amount,
+            release.seq,
+        )?;
+        let places = places(alloc)?;
+        let puts = puts(places, t, rows, self.entry, self.amount)?;
+        published(alloc, shelf, publisher, puts, text, release)
+    }
 }

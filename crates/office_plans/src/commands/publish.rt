@@ -125,7 +125,7 @@ fn plan_new<H: Lookups>(
 
 /// Plans the publication of a notice. A refusal needs no memory except for the rows. Unless the notice exists, these include a table of the lots' budget lines,
 /// so the answer may be `Unavailable` instead of another refusal although no look-up failed. `Unavailable` also if a row of the new notice exists.
-pub fn plan<H: Lookups>(
+pub(crate) fn plan<H: Lookups>(
     alloc: Global,
     shelf: &mut H,
     publisher: &Publisher,

@@ -1,16 +1,14 @@
 //! The plan for the signing of a contract: its reply, its release and its changes.
-ghost use Rattle.std.specs.Prelude.{◌≡◌, ℕ, Option, true, IfErr, IfOk, Some};
-ghost use Rattle.award_core.specs.Rules.Sign.{sign_rows};
-ghost use Rattle.office_commands.specs.Rights.{may};
-ghost use Rattle.office_commands.specs.declared.command.CommandKind.TheVariants as kinds;
+ghost use Rattle.std.specs.Prelude.{◌≡◌, ℕ, Option, IfErr, IfOk, Some, max};
+ghost use Rattle.award_core.specs.Rules.Sign.{sign_rows, sign_tests};
 ghost use Rattle.office_commands.specs.declared.commands.Command.TheVariants.{Sign};
 ghost use Rattle.office_commands.specs.declared.tender.NamedSecurity.{NamedSecurity};
-ghost use Rattle.office_base.specs.Shelves.{Looks, LooksUp};
+ghost use Rattle.office_base.specs.Shelves.{Looks};
 ghost use Rattle.office_base.specs.Tables.{Tables, award_at};
 ghost use Rattle.office_machine.specs.Replies as replies;
 ghost use Rattle.office_machine.specs.Replies.{release_of_award};
 ghost use Rattle.office_plans.specs.Asking.{given_by};
-ghost use Rattle.office_plans.specs.Published.{IsPlanned, TellsRefusal, accepted_reply};
+ghost use Rattle.office_plans.specs.Published.{accepted_reply};
 ghost use Rattle.office_plans.specs.Released.{IsReleased};
 ghost use Rattle.office_plans.specs.Replies.{reply_text};
 ghost use Rattle.office_values.specs.declared.refusal.Refusal.TheVariants.{Unavailable};
@@ -21,6 +19,7 @@ use crate::of_lot::securities_of_award;
 use crate::orphans::cant_be_signed;
 use crate::parents::{envelope_of_award, lot_of_award, notice_of_award};
 use crate::planned::Planned;
+use crate::planning::Planning;
 use crate::published::{Released, make_release, published};
 use award_core::sign::{SignRows, places, puts, refusal};
 use ocds_release::event::{Event, Signed};
@@ -36,28 +35,11 @@ use office_values::settings::Publisher;
 use std::alloc::{AllocError, Global};
 use tender_core::asking::Asking;
 
-// Loads the rows by which the command is decided.
-fn load<H: Lookups>(
-    alloc: Global,
-    shelf: &mut H,
-    award: AskedNumber,
-) -> Result<SignRows, ShelfFault>
-    ensures { LooksUp H.meaning shelf.old shelf.new result (λ s rows. rows ≡ sign_rows s award) }
-{
-    let clock = shelf.get_clock()?;
-    let award = shelf.get_award(award)?;
-    let notice = notice_of_award(shelf, &award)?;
-    let lot = lot_of_award(shelf, &award)?;
-    let envelope = envelope_of_award(shelf, &award)?;
-    let securities = securities_of_award(alloc, shelf, &award)?;
-    Ok(SignRows {
-        award,
-        notice,
-        lot,
-        envelope,
-        securities,
-        clock,
-    })
+/// The signing of a contract, with a performance security if one is named.
+#[derive(Drop)]
+pub(crate) struct SignCommand {
+    pub(crate) award: AskedNumber,
+    pub(crate) security: Option<NamedSecurity>,
 }
 
 // The text that says that this contract is signed.
@@ -120,35 +102,64 @@ fn release<H: Lookups>(
     make_release(alloc, publisher, award.notice, &rows.notice, t, &event)
 }
 
-/// Plans the signing of a contract, with a performance security if one is named. A refusal needs no memory except for the rows.
-/// `Unavailable` also if a contract, an entry or a performance security already has the award's number. So it is if the security of its tender is missing, or
-/// if its lot reserves another amount than its price.
-pub fn plan<H: Lookups>(
-    alloc: Global,
-    shelf: &mut H,
-    publisher: &Publisher,
-    asking: &Asking,
-    award: AskedNumber,
-    security: Option<NamedSecurity>,
-) -> Result<Planned, Refusal>
-    requires { may asking.now.caller.now kinds.Sign ≡ true }
-    ensures looks { Looks H.meaning shelf.old shelf.new (λ s. IsPlanned publisher.now (given_by asking.now s (Sign award security)) result) }
-    ensures tells { TellsRefusal H.meaning shelf.old shelf.new (λ s. given_by asking.now s (Sign award security)) result }
-{
-    looks_follow::<H>();
-    let rows = load(alloc, shelf, award)?;
-    let t = asking.time(&rows.clock);
-    if let Some(why) = refusal(t, &rows, &security) {
-        return Err(why);
+impl Planning for SignCommand {
+    type Rows = SignRows;
+
+    ghost command = { λ c. Sign c.award c.security };
+
+    ghost rows_of = { λ c asking s. sign_rows s c.award };
+
+    ghost tests = { λ c asking rows. sign_tests rows (max asking.moment rows.clock.moment) c.security };
+
+    fn load<H: Lookups>(
+        &self,
+        alloc: Global,
+        shelf: &mut H,
+        _asking: &Asking,
+    ) -> Result<SignRows, ShelfFault> {
+        let clock = shelf.get_clock()?;
+        let award = shelf.get_award(self.award)?;
+        let notice = notice_of_award(shelf, &award)?;
+        let lot = lot_of_award(shelf, &award)?;
+        let envelope = envelope_of_award(shelf, &award)?;
+        let securities = securities_of_award(alloc, shelf, &award)?;
+        Ok(SignRows {
+            award,
+            notice,
+            lot,
+            envelope,
+            securities,
+            clock,
+        })
     }
-    let taken = cant_be_signed(shelf, award, &rows)?;
-    if taken {
-        return Err(Refusal::Unavailable);
+
+    fn refusal(&self, asking: &Asking, rows: &SignRows) -> Option<Refusal> {
+        refusal(asking.time(&rows.clock), rows, &self.security)
     }
-    let row = rows.award.as_ref().unwrap();
-    let release = release(alloc, shelf, publisher, asking, &rows, row)?;
-    let text = reply(alloc, asking, &rows, award, release.seq)?;
-    let places = places(alloc, &rows)?;
-    let puts = puts(places, t, rows, security)?;
-    published(alloc, shelf, publisher, puts, text, release)
+
+    fn ruled(&self, _asking: &Asking) {}
+
+    // `Unavailable` also if a contract, an entry or a performance security already has the award's number. So it is if the security of its tender is missing, or
+    // if its lot reserves another amount than its price.
+    fn accepted<H: Lookups>(
+        self,
+        alloc: Global,
+        shelf: &mut H,
+        publisher: &Publisher,
+        asking: &Asking,
+        rows: SignRows,
+    ) -> Result<Planned, Refusal> {
+        looks_follow::<H>();
+        let t = asking.time(&rows.clock);
+        let taken = cant_be_signed(shelf, self.award, &rows)?;
+        if taken {
+            return Err(Refusal::Unavailable);
+        }
+        let row = rows.award.as_ref().unwrap();
+        let release = release(alloc, shelf, publisher, asking, &rows, row)?;
+        let text = reply(alloc, asking, &rows, self.award, release.seq)?;
+        let places = places(alloc, &rows)?;
+        let puts = puts(places, t, rows, self.security)?;
+        published(alloc, shelf, publisher, puts, text, release)
+    }
 }

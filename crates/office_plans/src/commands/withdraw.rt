@@ -1,21 +1,16 @@
 //! The plan for a withdrawal of a tender: its reply and its changes.
-ghost use Rattle.std.specs.Prelude.{◌≡◌, IfOk, true};
-ghost use Rattle.office_commands.specs.Rights.{may};
-ghost use Rattle.office_commands.specs.declared.command.CommandKind.TheVariants as kinds;
+ghost use Rattle.std.specs.Prelude.{◌≡◌, IfOk, max};
 ghost use Rattle.office_commands.specs.declared.commands.Command.TheVariants.{Withdraw};
 ghost use Rattle.office_base.specs.Transitions.{is_late};
-ghost use Rattle.office_base.specs.Shelves.{Looks, LooksUp};
 ghost use Rattle.office_machine.specs.Replies.{Withdrew, state_after};
-ghost use Rattle.office_plans.specs.Asking.{given_by};
-ghost use Rattle.office_plans.specs.Published.{IsPlanned, TellsRefusal};
 ghost use Rattle.office_plans.specs.Replies.{reply_text};
-ghost use Rattle.office_values.specs.declared.settings.Publisher.{Publisher};
-ghost use Rattle.tender_core.specs.Rules.Withdraw.{withdraw_rows};
+ghost use Rattle.tender_core.specs.Rules.Withdraw.{withdraw_rows, withdraw_tests};
 
 use crate::objects::{Plain, object_text};
 use crate::orphans::lacks_seal;
 use crate::parents::{late_of_envelope, lot_of_envelope, notice_of_envelope, security_of_envelope};
 use crate::planned::Planned;
+use crate::planning::Planning;
 use crate::published::silent;
 use crate::words::state_word;
 use office_base::laws::looks_follow;
@@ -24,29 +19,17 @@ use office_base::shelf::{Lookups, ShelfFault};
 use office_values::given::AskedNumber;
 use office_values::moment::Moment;
 use office_values::refusal::Refusal;
+use office_values::settings::Publisher;
 use std::alloc::{AllocError, Global};
 use tender_core::asking::Asking;
 use tender_core::tenders::is_late;
 use tender_core::withdraw::{WithdrawRows, places, puts, refusal};
 
-// Loads the rows by which the command is decided.
-fn load<H: Lookups>(shelf: &mut H, receipt: AskedNumber) -> Result<WithdrawRows, ShelfFault>
-    ensures { LooksUp H.meaning shelf.old shelf.new result (λ s rows. rows ≡ withdraw_rows s receipt) }
-{
-    let clock = shelf.get_clock()?;
-    let envelope = shelf.get_envelope(receipt)?;
-    let notice = notice_of_envelope(shelf, &envelope)?;
-    let lot = lot_of_envelope(shelf, &envelope)?;
-    let late = late_of_envelope(shelf, &envelope)?;
-    let security = security_of_envelope(shelf, &envelope)?;
-    Ok(WithdrawRows {
-        envelope,
-        notice,
-        lot,
-        late,
-        security,
-        clock,
-    })
+/// A withdrawal of a tender. Before the deadline its security is returned. From then on, if the notice allows a withdrawal, the tender can't win any more
+/// and its security is forfeited.
+#[derive(Drop)]
+pub(crate) struct WithdrawCommand {
+    pub(crate) receipt: AskedNumber,
 }
 
 // The state of a tender after its withdrawal. From the deadline on it keeps its state.
@@ -99,30 +82,60 @@ fn reply(
     withdrew_text(alloc, receipt, state, t)
 }
 
-/// Plans a withdrawal of a tender. Before the deadline its security is returned. From then on, if the notice allows a withdrawal, the tender can't win any more
-/// and its security is forfeited. A refusal needs no memory except for the rows.
-pub fn plan<H: Lookups>(
-    alloc: Global,
-    shelf: &mut H,
-    asking: &Asking,
-    receipt: AskedNumber,
-) -> Result<Planned, Refusal>
-    requires { may asking.now.caller.now kinds.Withdraw ≡ true }
-    ensures looks { (publisher : Publisher) → Looks H.meaning shelf.old shelf.new (λ s. IsPlanned publisher (given_by asking.now s (Withdraw receipt)) result) }
-    ensures tells { TellsRefusal H.meaning shelf.old shelf.new (λ s. given_by asking.now s (Withdraw receipt)) result }
-{
-    looks_follow::<H>();
-    let rows = load(shelf, receipt)?;
-    let t = asking.time(&rows.clock);
-    if let Some(why) = refusal(t, asking.caller, &rows) {
-        return Err(why);
+impl Planning for WithdrawCommand {
+    type Rows = WithdrawRows;
+
+    ghost command = { λ c. Withdraw c.receipt };
+
+    ghost rows_of = { λ c asking s. withdraw_rows s c.receipt };
+
+    ghost tests = { λ c asking rows. withdraw_tests rows (max asking.moment rows.clock.moment) asking.caller.now };
+
+    fn load<H: Lookups>(
+        &self,
+        _alloc: Global,
+        shelf: &mut H,
+        _asking: &Asking,
+    ) -> Result<WithdrawRows, ShelfFault> {
+        let clock = shelf.get_clock()?;
+        let envelope = shelf.get_envelope(self.receipt)?;
+        let notice = notice_of_envelope(shelf, &envelope)?;
+        let lot = lot_of_envelope(shelf, &envelope)?;
+        let late = late_of_envelope(shelf, &envelope)?;
+        let security = security_of_envelope(shelf, &envelope)?;
+        Ok(WithdrawRows {
+            envelope,
+            notice,
+            lot,
+            late,
+            security,
+            clock,
+        })
     }
-    let broken = lacks_seal(shelf, &rows.envelope)?;
-    if broken {
-        return Err(Refusal::Unavailable);
+
+    fn refusal(&self, asking: &Asking, rows: &WithdrawRows) -> Option<Refusal> {
+        refusal(asking.time(&rows.clock), asking.caller, rows)
     }
-    let text = reply(alloc, t, &rows, receipt)?;
-    let places = places(alloc)?;
-    let puts = puts(places, t, rows)?;
-    Ok(silent(puts, text))
+
+    fn ruled(&self, _asking: &Asking) {}
+
+    fn accepted<H: Lookups>(
+        self,
+        alloc: Global,
+        shelf: &mut H,
+        _publisher: &Publisher,
+        asking: &Asking,
+        rows: WithdrawRows,
+    ) -> Result<Planned, Refusal> {
+        looks_follow::<H>();
+        let t = asking.time(&rows.clock);
+        let broken = lacks_seal(shelf, &rows.envelope)?;
+        if broken {
+            return Err(Refusal::Unavailable);
+        }
+        let text = reply(alloc, t, &rows, self.receipt)?;
+        let places = places(alloc)?;
+        let puts = puts(places, t, rows)?;
+        Ok(silent(puts, text))
+    }
 }

@@ -15,21 +15,6 @@ told M asking a b given command result is tells = subst (λ (k : Command). Tells
 pub returns-in-Import-clause-looks : goal.returns-in-Import-clause-looks
 returns-in-Import-clause-looks g c = planned _ c.args.publisher.now c.args.asking.now _ _ c.args.command (Import c.in-Import.batch c.in-Import.rows) _ c.in-Import.is c.plan.ensures.looks
 
-pub returns-in-Register-clause-looks : goal.returns-in-Register-clause-looks
-returns-in-Register-clause-looks g c = planned _ c.args.publisher.now c.args.asking.now _ _ c.args.command (Register c.in-Register.tenderer c.in-Register.name c.in-Register.address c.in-Register.key) _ c.in-Register.is c.plan-in-Register.ensures.looks
-
-pub returns-in-Present-clause-looks : goal.returns-in-Present-clause-looks
-returns-in-Present-clause-looks g c = planned _ c.args.publisher.now c.args.asking.now _ _ c.args.command (Present c.in-Present.notice c.in-Present.lot c.in-Present.security c.in-Present.sealed) _ c.in-Present.is c.plan-in-Present.ensures.looks
-
-pub returns-in-Modify-clause-looks : goal.returns-in-Modify-clause-looks
-returns-in-Modify-clause-looks g c = planned _ c.args.publisher.now c.args.asking.now _ _ c.args.command (Modify c.in-Modify.receipt c.in-Modify.sealed) _ c.in-Modify.is c.plan-in-Modify.ensures.looks
-
-pub returns-in-Withdraw-clause-looks : goal.returns-in-Withdraw-clause-looks
-returns-in-Withdraw-clause-looks g c = planned _ c.args.publisher.now c.args.asking.now _ _ c.args.command (Withdraw c.in-Withdraw.receipt) _ c.in-Withdraw.is c.plan-in-Withdraw.ensures.looks
-
-pub returns-in-Examine-clause-looks : goal.returns-in-Examine-clause-looks
-returns-in-Examine-clause-looks g c = planned _ c.args.publisher.now c.args.asking.now _ _ c.args.command (Examine c.in-Examine.receipt c.in-Examine.responsive c.in-Examine.quality) _ c.in-Examine.is c.plan-in-Examine.ensures.looks
-
 pub returns-in-Import-clause-tells : goal.returns-in-Import-clause-tells
 returns-in-Import-clause-tells g c =
     told g.H.Lookups.meaning c.args.asking.now c.args.shelf.now c.plan.new.shelf c.args.command (Import c.in-Import.batch c.in-Import.rows) c.plan.result c.in-Import.is c.plan.ensures.tells
