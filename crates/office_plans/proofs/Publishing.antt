@@ -1,5 +1,5 @@
 -- A command that is decided on rows that were looked up. The decision is the specification's, and the look-ups leave the store as it was.
-use Rattle.office_plans.proofs.Names.{◌≡◌, ℕ, Bool, true, false, not, ◌||◌, cond, List, Option, Some, Err, max, ◌∙◌, ap, inl, refl, sym, Refusal, Forbidden, Publisher, Command, first_of, Looks, LooksFollow, Meaning, Tables, Put, ClockRow, is_lacking, Given, command_tests, effect, may_give, refusal_of, time_of, office_readings, given_by, IsPlanned, Asking}
+use Rattle.office_plans.proofs.Names.{◌≡◌, ℕ, Bool, true, false, not, ◌||◌, cond, List, Option, Some, None, Err, max, ◌∙◌, ap, inl, refl, sym, Refusal, Forbidden, Publisher, Command, first_of, Looks, LooksFollow, Meaning, Tables, Put, ClockRow, is_lacking, Given, command_tests, effect, may_give, refusal_of, time_of, office_readings, given_by, IsPlanned, Asking}
 
 -- A command that its caller may give is refused exactly as its own tests say.
 pub refused_by : (x : Given) → may_give x.caller x.command ≡ true → refusal_of x ≡ first_of (command_tests x)

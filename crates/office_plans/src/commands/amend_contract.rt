@@ -21,7 +21,7 @@ use award_core::amend_contract::{AmendContractRows, places, puts, refusal};
 use ocds_release::borrowed::BorrowedLine;
 use ocds_release::event::{ContractAmended, Event};
 use office_base::counts::Sequence;
-use office_base::laws::{looks_follow, rows_are_kept};
+use office_base::laws::rows_are_kept;
 use office_base::records::ContractRow;
 use office_base::rows::Rows;
 use office_base::shelf::{Lookups, ShelfFault};
@@ -147,7 +147,6 @@ impl Planning for AmendContractCommand {
         asking: &Asking,
         rows: AmendContractRows,
     ) -> Result<Planned, Refusal> {
-        looks_follow::<H>();
         let t = asking.time(&rows.clock);
         let row = rows.contract.as_ref().unwrap();
         let release = release(

@@ -14,7 +14,6 @@ use crate::published::{Released, make_release, published};
 use crate::replies::notice_reply;
 use ocds_release::borrowed::BorrowedLine;
 use ocds_release::event::{Event, NoticeAmended};
-use office_base::laws::looks_follow;
 use office_base::records::NoticeRow;
 use office_base::shelf::{Lookups, ShelfFault};
 use office_values::id::Id;
@@ -105,7 +104,6 @@ impl Planning for AmendNoticeCommand {
         asking: &Asking,
         rows: AmendNoticeRows,
     ) -> Result<Planned, Refusal> {
-        looks_follow::<H>();
         let t = asking.time(&rows.clock);
         let release = release(
             alloc,

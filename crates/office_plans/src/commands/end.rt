@@ -21,7 +21,6 @@ use crate::replies::contract_text;
 use award_core::end::{EndRows, places, puts, refusal};
 use ocds_release::event::{ContractEnded, Event};
 use office_base::counts::Sequence;
-use office_base::laws::looks_follow;
 use office_base::records::ContractRow;
 use office_base::rows::Rows;
 use office_base::shelf::{Lookups, ShelfFault};
@@ -126,7 +125,6 @@ impl Planning for EndCommand {
         asking: &Asking,
         rows: EndRows,
     ) -> Result<Planned, Refusal> {
-        looks_follow::<H>();
         let t = asking.time(&rows.clock);
         let row = rows.contract.as_ref().unwrap();
         let release = release(alloc, publisher, asking, &rows, row)?;

@@ -18,7 +18,6 @@ use crate::published::{Released, make_release, published};
 use award_core::fail::{FailRows, puts, refusal};
 use ocds_release::event::{AwardFailed, Event};
 use office_base::counts::Sequence;
-use office_base::laws::looks_follow;
 use office_base::records::AwardRow;
 use office_base::shelf::{Lookups, ShelfFault};
 use office_values::given::AskedNumber;
@@ -133,7 +132,6 @@ impl Planning for FailCommand {
         asking: &Asking,
         rows: FailRows,
     ) -> Result<Planned, Refusal> {
-        looks_follow::<H>();
         let t = asking.time(&rows.clock);
         let row = rows.award.as_ref().unwrap();
         let release = release(alloc, publisher, asking, &rows, row)?;

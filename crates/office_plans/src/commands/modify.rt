@@ -9,7 +9,6 @@ use crate::planned::Planned;
 use crate::planning::Planning;
 use crate::published::silent;
 use crate::replies::tender_reply;
-use office_base::laws::looks_follow;
 use office_base::shelf::{Lookups, ShelfFault};
 use office_commands::sealed::Sealed;
 use office_values::given::AskedNumber;
@@ -66,7 +65,6 @@ impl<'a> Planning for ModifyCommand<'a> {
         asking: &Asking,
         rows: ModifyRows,
     ) -> Result<Planned, Refusal> {
-        looks_follow::<H>();
         let t = asking.time(&rows.clock);
         let broken = cant_be_replaced(shelf, &rows.clock, &rows.envelope)?;
         if broken {

@@ -10,7 +10,6 @@ use crate::planned::Planned;
 use crate::planning::Planning;
 use crate::published::silent;
 use crate::replies::tender_reply;
-use office_base::laws::looks_follow;
 use office_base::shelf::{Lookups, ShelfFault};
 use office_commands::sealed::Sealed;
 use office_commands::tender::NamedSecurity;
@@ -75,7 +74,6 @@ impl<'a> Planning for PresentCommand<'a> {
         asking: &Asking,
         rows: PresentRows,
     ) -> Result<Planned, Refusal> {
-        looks_follow::<H>();
         let t = asking.time(&rows.clock);
         let taken = receipt_is_taken(shelf, &rows.clock)?;
         if taken {

@@ -13,7 +13,6 @@ use crate::planned::Planned;
 use crate::planning::Planning;
 use crate::published::silent;
 use crate::words::state_word;
-use office_base::laws::looks_follow;
 use office_base::records::{EnvelopeRow, EnvelopeState};
 use office_base::shelf::{Lookups, ShelfFault};
 use office_values::given::AskedNumber;
@@ -127,7 +126,6 @@ impl Planning for WithdrawCommand {
         asking: &Asking,
         rows: WithdrawRows,
     ) -> Result<Planned, Refusal> {
-        looks_follow::<H>();
         let t = asking.time(&rows.clock);
         let broken = lacks_seal(shelf, &rows.envelope)?;
         if broken {

@@ -11,4 +11,4 @@ returns g c =
     let whole = sym (ap examine_lacks are) ∙ c.in_ok-puts.ensures.whole in
     let puts = c.in_ok-puts.ensures.puts ∙ (λ i. examine_puts (are i) (time i) a.self.responsive a.self.quality) in
     let told = c.in_ok-text.ensures ∙ (λ i. reply_text (Examined a.self.receipt a.self.responsive (time i))) in
-    c.silent.ensures a.publisher.now (given_by a.asking.now s (Examine a.self.receipt a.self.responsive a.self.quality)) tt allowed whole refl refl puts told)
+    c.silent.ensures a._publisher.now (given_by a.asking.now s (Examine a.self.receipt a.self.responsive a.self.quality)) tt allowed whole refl refl puts told)

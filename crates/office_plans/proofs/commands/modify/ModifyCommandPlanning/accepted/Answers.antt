@@ -30,4 +30,4 @@ returns g c =
     let told =
     told_of a.rows _ a.asking.now.caller.now a.self.sealed _ refuses (λ tender at. c.in_ok-text.ensures.told tender (third ∙ at))
     ∙ (λ i. reply_text (modify_reply office_readings (are i).clock (time i) a.self.sealed (are i).envelope)) in
-    c.silent.ensures a.publisher.now (given_by a.asking.now s (Modify a.self.receipt a.self.sealed)) tt allowed whole refl refl puts told)
+    c.silent.ensures a._publisher.now (given_by a.asking.now s (Modify a.self.receipt a.self.sealed)) tt allowed whole refl refl puts told)

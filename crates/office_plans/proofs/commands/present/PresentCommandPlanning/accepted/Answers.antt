@@ -14,4 +14,4 @@ returns g c =
     reply_text (received_reply (received sha256 rows.clock t a.asking.now.caller.now a.self.notice a.self.lot a.self.security a.self.sealed (holds_of (is_in_time t) rows.notice))) in
     let first = ap (λ (ps : List Put). slice_get ps 0) (c.as_slice.ensures.value ∙ c.in_ok-puts.ensures.puts) in
     let told = c.in_ok-text.ensures.told _ first ∙ (λ i. reply (are i) (time i)) in
-    c.silent.ensures a.publisher.now (given_by a.asking.now s (Present a.self.notice a.self.lot a.self.security a.self.sealed)) tt allowed new refl refl puts told)
+    c.silent.ensures a._publisher.now (given_by a.asking.now s (Present a.self.notice a.self.lot a.self.security a.self.sealed)) tt allowed new refl refl puts told)

@@ -5,5 +5,5 @@ use Rattle.office_plans.proofs.commands.present.PresentCommandPlanning.ruled.Goa
 pub returns : goal.returns
 returns c = λ s.
     let self = c.args.self.now in
-    let asking = c.args.asking.now in
+    let asking = c.args._asking.now in
     sym (own_tests asking.caller.now self.notice self.lot s (max asking.moment s.clock.moment) self.security)

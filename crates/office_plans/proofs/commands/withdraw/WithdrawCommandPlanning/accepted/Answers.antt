@@ -14,4 +14,4 @@ returns g c =
     let puts = c.in_ok-puts.ensures.puts ∙ (λ i. withdraw_puts (are i) (time i)) in
     let reply = λ (rows : WithdrawRows) (t : ℕ). reply_text (Withdrew a.self.receipt (state_after (is_late rows.late t rows.notice) rows.envelope) t) in
     let told = c.in_ok-text.ensures ∙ (λ i. reply (are i) (time i)) in
-    c.silent.ensures a.publisher.now (given_by a.asking.now s (Withdraw a.self.receipt)) tt allowed whole refl refl puts told)
+    c.silent.ensures a._publisher.now (given_by a.asking.now s (Withdraw a.self.receipt)) tt allowed whole refl refl puts told)
