@@ -148,7 +148,9 @@ impl Planning for AmendContractCommand {
         rows: AmendContractRows,
     ) -> Result<Planned, Refusal> {
         let t = asking.time(&rows.clock);
-        let row = rows.contract.as_ref().unwrap();
+        let Some(row) = &rows.contract else {
+            return Err(Refusal::Unavailable);
+        };
         let release = release(
             alloc,
             publisher,

@@ -126,7 +126,9 @@ impl Planning for EndCommand {
         rows: EndRows,
     ) -> Result<Planned, Refusal> {
         let t = asking.time(&rows.clock);
-        let row = rows.contract.as_ref().unwrap();
+        let Some(row) = &rows.contract else {
+            return Err(Refusal::Unavailable);
+        };
         let release = release(alloc, publisher, asking, &rows, row)?;
         let text = reply(alloc, asking, &rows, self.contract, release.seq)?;
         let places = places(alloc)?;

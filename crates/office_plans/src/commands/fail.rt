@@ -133,7 +133,9 @@ impl Planning for FailCommand {
         rows: FailRows,
     ) -> Result<Planned, Refusal> {
         let t = asking.time(&rows.clock);
-        let row = rows.award.as_ref().unwrap();
+        let Some(row) = &rows.award else {
+            return Err(Refusal::Unavailable);
+        };
         let release = release(alloc, publisher, asking, &rows, row)?;
         let text = reply(alloc, asking, &rows, self.award, release.seq)?;
         let puts = puts(alloc, t, rows)?;

@@ -138,7 +138,9 @@ impl Planning for PayCommand {
     ) -> Result<Planned, Refusal> {
         looks_follow::<H>();
         let t = asking.time(&rows.clock);
-        let row = rows.contract.as_ref().unwrap();
+        let Some(row) = &rows.contract else {
+            return Err(Refusal::Unavailable);
+        };
         let release = release(
             alloc,
             shelf,

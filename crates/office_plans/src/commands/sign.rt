@@ -155,7 +155,9 @@ impl Planning for SignCommand {
         if taken {
             return Err(Refusal::Unavailable);
         }
-        let row = rows.award.as_ref().unwrap();
+        let Some(row) = &rows.award else {
+            return Err(Refusal::Unavailable);
+        };
         let release = release(alloc, shelf, publisher, asking, &rows, row)?;
         let text = reply(alloc, asking, &rows, self.award, release.seq)?;
         let places = places(alloc, &rows)?;

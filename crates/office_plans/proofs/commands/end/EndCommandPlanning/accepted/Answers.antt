@@ -11,6 +11,6 @@ returns g c =
     let time = c.time-t.ensures ∙ ap (λ (rows : EndRows). max a.asking.now.moment rows.clock.moment) are in
     let whole = sym (ap end_lacks are) ∙ c.in_ok-puts.ensures.whole in
     let puts = c.in_ok-puts.ensures.puts ∙ (λ i. end_puts (are i) (time i) a.self.how) in
-    let made = c.in_ok-release.ensures.release s a.self.contract a.self.how are (sym c.as_ref.ensures.value ∙ ap option_copied c.unwrap-row.ensures) in
+    let made = c.in_ok-release.ensures.release s a.self.contract a.self.how are c.in-Some.is in
     joined (given_by a.asking.now s (End a.self.contract a.self.how)) refl tt allowed whole puts
     (c.in_ok-text.ensures.told s a.self.how are (numbered_contract made (contract_at a.self.contract s) refl) allowed) made)

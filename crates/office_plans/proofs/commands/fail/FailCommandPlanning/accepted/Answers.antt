@@ -11,5 +11,5 @@ returns g c =
     let time = c.time-t.ensures ∙ ap (λ (rows : FailRows). max a.asking.now.moment rows.clock.moment) are in
     let whole = sym (ap fail_lacks are) ∙ c.in_ok-puts.ensures.whole in
     let puts = c.in_ok-puts.ensures.puts ∙ (λ i. fail_puts (are i) (time i)) in
-    let made = c.in_ok-release.ensures.release s a.self.award are (sym c.as_ref.ensures.value ∙ ap option_copied c.unwrap-row.ensures) in
+    let made = c.in_ok-release.ensures.release s a.self.award are c.in-Some.is in
     joined (given_by a.asking.now s (Fail a.self.award)) refl tt allowed whole puts (c.in_ok-text.ensures s are (numbered_award made (award_at a.self.award s) refl)) made)

@@ -11,6 +11,6 @@ returns g c =
     let time = c.time-t.ensures ∙ ap (λ (rows : PayRows). max a.asking.now.moment rows.clock.moment) are in
     let whole = sym (ap pay_lacks are) ∙ c.in_ok-puts.ensures.whole in
     let puts = c.in_ok-puts.ensures.puts ∙ (λ i. pay_puts (are i) (time i) a.self.entry a.self.amount) in
-    let made = released a.self.contract are (sym c.as_ref.ensures.value ∙ ap option_copied c.unwrap-row.ensures) in
+    let made = released a.self.contract are c.in-Some.is in
     joined (given_by a.asking.now s (Pay a.self.contract a.self.entry a.self.amount)) refl tt allowed whole puts
     (c.in_ok-text.ensures.told s a.self.entry are (numbered_contract made (contract_at a.self.contract s) refl) allowed) made)

@@ -22,5 +22,5 @@ returns g c =
     (holds_of (reserves_another (lot_of_award (award_at a.self.award s) s)) (award_at a.self.award s))
     ∙ (λ i. there i || new i) in
     let puts = c.in_ok-puts.ensures.puts ∙ (λ i. sign_puts (are i) (time i) a.self.security) in
-    let made = released a.self.award a.self.security are (sym c.as_ref.ensures.value ∙ ap option_copied c.unwrap-row.ensures) in
+    let made = released a.self.award a.self.security are c.in-Some.is in
     joined x refl tt allowed whole puts (c.in_ok-text.ensures s a.self.security are (numbered_award made (award_at a.self.award s) refl)) made)
