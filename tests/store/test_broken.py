@@ -159,12 +159,8 @@ def test_what_is_refused(whole, test, change, count, tmp_path):
 WHOLE, SIGN = 'cp WHOLE "$3"; exec PROGRAM "$@"', TRIALS["sign, no row in lots"]
 # Stand-ins for the program: the work of each on a file, $3, and the test that must find it. This test gets a trial or a change, and must say the words.
 WRONG = {
-    "the whole file is served": (WHOLE, try_trial, SIGN, "accepted"),
     "a row goes behind a refusal": ('PROGRAM "$@"; sqlite3 "$3" "DELETE FROM lines;"', try_trial, SIGN, "refused, and changed"),
-    "another refusal": ('cp "$3" "$3-2"; sqlite3 "$3-2" "DELETE FROM awards;"; exec PROGRAM "$1" "$2" "$3-2" "$4" "$5"', try_trial, SIGN, "told NoSuch award"),
-    "another end": ('PROGRAM "$@"; exit 7', try_trial, SIGN, "ended with (7"),
     "the sums of another file": (WHOLE, try_sums, CHANGES["one more is free"], "other sums"),
-    "nothing is shown": ('rm -f "$3"; exec PROGRAM "$@" 2> /dev/null', try_sums, CHANGES["nothing"], "other sums"),
     "money of another file is moved": (WHOLE, try_moves, CHANGES["all is free"], "import: accepted"),
 }
 

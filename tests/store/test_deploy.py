@@ -1,7 +1,7 @@
 """deploy/check, and the units of deploy/ as systemd reads them.
 
-Each comparison of the check is made void (planted_in_check.tsv), and a test fails then. `systemd-analyze verify` prints nothing about the units, with other
-programs in place of the installed ones, and something if a word in one is wrong.
+For each of its parts one comparison of the check is made void (planted_in_check.tsv), and a test fails then. `systemd-analyze verify` prints nothing about
+the units, with other programs in place of the installed ones, and something if a word in one is wrong.
 """
 import contextlib
 import io

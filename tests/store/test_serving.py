@@ -210,12 +210,7 @@ def response_of(status, body):
 
 # The program's answer without the moment.
 TAKEN, LOOKED = response_of(b"200 OK", b'{"batch":"B1","moment":"2026-01-05T09:00:00Z","rows":1}'), response_of(b"200 OK", SEEN)
-TWICE = response_of(b"200 OK", SEEN.replace(b"600", b"1200"))
 BAD, NONE = response_of(b"400 Bad Request", b'{"name":"BadHead","refusal":1}'), response_of(b"404 Not Found", b'{"name":"NoSuch","refusal":4}')
-BUSY = response_of(b"503 Service Unavailable", b'{"name":"Unavailable","refusal":32}')
-# The first part of a stand-in for a failing disk: other jobs are the program's, and a server reports its end.
-OTHERS = '[ "$1" = serve ] || exec PROGRAM "$@"; '
-FAILING = OTHERS + "echo procure: store >&2; "
 # A server that gives so many connections these answers, each once its client has sent all, or has been silent for so many seconds.
 SERVER = """exec python3 -c '
 import contextlib, socket, sys
@@ -227,56 +222,30 @@ with socket.create_server(("{host}", int(sys.argv[1]))) as listener:
             with contextlib.suppress(TimeoutError):
                 while stream.recv(65536): pass
             stream.sendall(bytes.fromhex(answer))
-sys.exit({status})
 ' "$4"
 """
 
 
-def answering(*answers, status=0, patience=PATIENCE):
-    """The script of such a server, which ends with this status."""
+def answering(*answers, patience=PATIENCE):
+    """The script of such a server."""
     listed = "[" + ", ".join(f'"{answer.hex()}"' for answer in answers) + "]"
-    return SERVER.format(host=HOST, answers=listed, patience=patience, status=status)
+    return SERVER.format(host=HOST, answers=listed, patience=patience)
 
 
 # The program within another one, with which it is killed.
 WITHIN = 'setpriv --pdeathsig KILL PROGRAM "$@"'
 # Programs that behave wrongly, the test that finds each, the words that it must say, and its case.
 WRONG = {
-    "no answer behind a silent client": (answering(b"", b""), test_a_silent_client, "the next one is answered"),
-    "an answer comes twice": (answering(TAKEN * 2, LOOKED), test_one_after_another, "it isn't one whole answer"),
-    "the second one comes twice": (answering(TAKEN, LOOKED * 2), test_one_after_another, "it isn't one whole answer"),
-    "an answer is cut": (answering(TAKEN, LOOKED[:-5]), test_one_after_another, "it isn't one whole answer"),
-    "answers are exchanged": (answering(LOOKED, TAKEN), test_one_after_another, "the look is answered"),
-    "an import has no answer": (answering(b"", LOOKED), test_one_after_another, "the import is answered"),
     "an answered import is lost": (answering(TAKEN, NONE), test_one_after_another, "the look is answered"),
-    "an answered import is there twice": (answering(TAKEN, TWICE), test_one_after_another, "the look is answered"),
-    "another status": (answering(TAKEN, LOOKED, status=1), test_one_after_another, "it ends with 0"),
     "half a request is taken": (answering(b"", TAKEN, TAKEN, BAD, LOOKED), test_harmful_clients, "half a request is refused"),
-    "an import that nobody heard of is lost": (answering(b"", TAKEN, BAD, BAD, NONE), test_harmful_clients, "the last one is answered"),
-    "no answer behind harm": (answering(b"", TAKEN, BAD, BAD, b""), test_harmful_clients, "the last one is answered"),
     "no patience": (answering(b"", LOOKED, patience=0.5), test_a_silent_client, "after ten seconds, and not after"),
-    "no answers": ('exec PROGRAM "$@" < /dev/null', test_extensions, "0 of 4 answered"),
     "no extensions": ('exec PROGRAM "$1" CONFIG', test_extensions, "a package names them in front"),
-    "extensions in another order": ("""PROGRAM "$@" | sed 's|lots","https://example.org/points|points","https://example.org/lots|'""", test_extensions,
-                                    "a package names them in front"),
-    "the moment isn't the clock's": ('unset SECOND; exec PROGRAM "$@"', test_moment, "it is the clock\'s", "0"),
     "2100": ('[ "$SECOND" != 4102444800 ] || SECOND=0; exec PROGRAM "$@"', test_moment, "it is the clock\'s", "4102444800"),
-    "a moment without a clock": ('[ "$SECOND" ] || unset SECOND; exec PROGRAM "$@"', test_moment, "it is the clock\'s", ""),
-    "a moment before 1970": ('[ "$SECOND" != -1 ] || SECOND=0; exec PROGRAM "$@"', test_moment, "it is the clock\'s", "-1"),
 }
 # The same about the end of a program, and about a disk, for files of each page size.
 WRONG_FILES = {
-    "an import is refused": (answering(NONE, LOOKED), test_the_end, "the import is answered"),
-    "another status": (WITHIN + '; exit 1', test_the_end, "it ends with 0"),
-    "the log has pages": (WITHIN + '; head -c 9999 /dev/zero > "$3-wal"', test_the_end, "the log has no page"),
     "a line is lost": (WITHIN + '; rm "$3"*; PROGRAM ledger "$2" "$3" > /dev/null', test_the_end, "the file alone has the line"),
-    "a program that prints loses the log": ('[ "$1" = serve ] || rm -f "$3-wal"; exec PROGRAM "$@"', test_the_end, "a program that prints shows it"),
-    "a refusal that isn't told": ('unset LD_PRELOAD; exec PROGRAM "$@"', test_a_flush_that_fails, "are answered with 503 in turn, and not 0"),
     "a refusal with another status": (WITHIN + ' || exit 2', test_a_flush_that_fails, "and not 2"),
-    "a refusal with another error": (WITHIN + ' 2> /dev/null', test_a_flush_that_fails, "and not 1, ''"),
-    "accepted imports are lost": (WITHIN + '; s=$?; [ "$1" != serve ] || rm -f "$3"*; exit $s', test_a_flush_that_fails, "an accepted line is missing"),
-    "two are refused": (FAILING + answering(BUSY, BUSY, b"", b"", status=1), test_a_flush_that_fails, "none but the last is refused"),
-    "all are refused without a fault": (OTHERS + answering(*[BUSY] * 4), test_a_flush_that_fails, "all are answered with 200 then"),
 }
 
 
