@@ -11,7 +11,7 @@
 # make soak      the long forms, after `make test`: hours of kills, failing disks, large old files, all pictures of the
 #                screens, and the mutants of edits/ (tools/soak --help)
 # make release   packs build/procure as an archive and a Debian package, to build/release (tools/release --help)
-# make bench     measures build/procure (bench/serve --help)
+# make bench     measures build/procure (bench/instructions --help)
 RT ?= rt
 # How many checks run side by side (office_kit/gate/lanes.py). If it is empty, rt decides.
 RT_JOBS ?= $(shell python3 -B -m office_kit.gate.lanes)
@@ -55,4 +55,4 @@ release:
 	@tools/release
 
 bench: build
-	bench/serve
+	bench/instructions

@@ -326,12 +326,6 @@ def made_shim(source: str, folder: str, *words: str) -> str:
     return shim
 
 
-def tenths(times: Sequence[float]) -> float:
-    """The time of the last tenth to that of the first."""
-    tenth = max(1, len(times) // 10)
-    return sum(times[-tenth:]) / sum(times[:tenth])
-
-
 def peak(process: "subprocess.Popen[bytes]", before: int) -> int:
     """The greatest memory of a process so far, in KiB. (The value of `wait4` counts this script's own, from before the program began.)"""
     try:
@@ -339,8 +333,3 @@ def peak(process: "subprocess.Popen[bytes]", before: int) -> int:
             return max([before] + [int(line.split()[1]) for line in status if line.startswith("VmHWM")])
     except OSError:
         return before
-
-
-def processor(process: "subprocess.Popen[bytes]") -> float:
-    """The seconds of processor that a process took so far, without the kernel's work for it."""
-    return int(Path(f"/proc/{process.pid}/stat").read_text().rpartition(")")[2].split()[11]) / os.sysconf("SC_CLK_TCK")

@@ -23,21 +23,15 @@ DOCUMENT = Document()
 PAGE = Path(ROOT, "docs", "API.md").read_text(encoding="utf-8")
 # The refusals that a request can meet, whatever it asks: sections of routes don't list them.
 OF_ANY = {"BadHead", "TooLong", "Coding", "NoRoute", "BadKey", "Forbidden", "Unavailable"}
-# Changes that make a copy of the document invalid OpenAPI 3.1.
-PLANTS = {
-    "its version is another": lambda tree: tree.update(openapi="3.0.3"),
-    "a path has a parameter that nothing declares": lambda tree: tree["paths"].update({"/ledger/{year}": tree["paths"].pop("/ledger")}),
-    "a reference leads nowhere": lambda tree: award_of(tree)["responses"].update({"410": {"$ref": "#/components/responses/Gone"}}),
-}
 
 
 def test_is_valid():
     assert openapi_rules.flaws_of(DOCUMENT.tree) == []
 
 
-@pytest.mark.parametrize("plant", PLANTS.values(), ids=PLANTS)
-def test_planted_fault(plant):
-    plant(tree := copy.deepcopy(DOCUMENT.tree))
+def test_planted_fault():
+    """A reference that leads nowhere is found."""
+    award_of(tree := copy.deepcopy(DOCUMENT.tree))["responses"]["410"] = {"$ref": "#/components/responses/Gone"}
     assert openapi_rules.flaws_of(tree)
 
 
