@@ -2,6 +2,8 @@
 
 bench/gate is left out, since it runs the gate itself.
 """
+import re
+
 import pytest
 
 from office_kit.common import ROOT, ended
@@ -24,3 +26,11 @@ def test_measure(program, line):
     if status == 3:
         pytest.skip(said.strip())
     assert status == 0, said
+
+
+def test_instructions(plain_program):
+    words = ["bench/instructions", "--kinds", "line", "--lines", "3", "--releases", "42", "--program", plain_program]
+    status, said = ended(words, cwd=ROOT)
+    if status == 3:
+        pytest.skip(said.strip())
+    assert status == 0 and re.search(r"a query of a line:\n  ours [\d,]+: \w", said), said
