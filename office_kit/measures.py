@@ -34,7 +34,7 @@ def options_with(text: str | None, **numbers: tuple[int | str, str]) -> argparse
 
 
 def counts_of(text: str) -> list[int]:
-    return [int(word) for word in text.split(",")]
+    return [int(word) for word in text.split(",") if word]
 
 
 # ---- Offices.
